@@ -1,0 +1,5 @@
+pub mod Channels
+pub mod Places
+pub mod Lookups
+pub mod Table
+pub mod Making

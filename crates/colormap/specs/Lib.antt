@@ -1,0 +1,5 @@
+pub mod Palettes
+pub mod Lookup
+pub mod Positions
+pub mod Spread
+pub mod Made

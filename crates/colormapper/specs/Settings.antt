@@ -1,0 +1,19 @@
+-- The settings, and the colours that they give (docs/RULES.md, "Samples and settings"). Definitions only.
+use Prim.Native.Nat.{ℕ}
+use mathlib.Core.Bool.{false}
+use Rattle.colormapper.specs.declared.OptionalColor.{OptionalColor}
+use Rattle.colormapper.specs.declared.OptionalColor.the-variants.{Given, Absent}
+use Rattle.colormapper.specs.declared.MappingConfig.{MappingConfig}
+use Rattle.colormapper.specs.declared.UnmappableColors.{UnmappableColors}
+
+-- TRANSPARENT for nodata, no low and no high colour, zero a value as any other
+abbrev pub noSettings : MappingConfig
+noSettings = record { «nodata_color» = 0; «out_of_range_low_color» = Absent; «out_of_range_high_color» = Absent; «zero_is_nodata» = false }
+
+abbrev pub orElse : OptionalColor → ℕ → ℕ
+orElse (Given color) other = color
+orElse Absent other = other
+
+-- low and high are what a kind takes where the settings have none
+abbrev pub unmappableColors : MappingConfig → (low high : ℕ) → UnmappableColors
+unmappableColors config low high = record { nodata = config .«nodata_color»; low = orElse (config .«out_of_range_low_color») low; high = orElse (config .«out_of_range_high_color») high }

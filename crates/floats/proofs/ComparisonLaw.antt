@@ -1,0 +1,89 @@
+-- The library's comparisons meet the definitions of `Comparison` on every operand. Assumes nothing.
+use mathlib.Core.Path.{_≡_, refl, subst}
+use mathlib.Core.Logic.{_↔_, inl, inr}
+use Prim.Native.Nat.{ℕ, _+_, _*_, _<_}
+use native.Mathlib.Omega.{arith}
+use mathlib.Core.Bool.{Bool, true, false, _||_, Bool·beq}
+use lib.Dec.{T, eqb, ltb→lt, lt→ltb, eqb→eq}
+use lib.Ieee.{Float, nan, inf, fin, up, down, lt, le, eq, level, below}
+use lib.Ieee.Fits.{and-i, and-l, and-r, eq→eqb}
+use Rattle.floats.specs.Signed.{positive, negative}
+use Rattle.floats.specs.Comparison.{Less, Same, AtMost}
+use Rattle.floats.proofs.Order.{or-split, or-l, or-r}
+
+-- ---- less
+below→ : (s : Bool) (a : ℕ) (t : Bool) (b : ℕ) → T (below s a t b) → positive s a + negative t b < positive t b + negative s a
+below→ false a false b h = omega (arith, ltb→lt a b h)
+below→ true a false b h = omega (arith, ltb→lt 0 (a + b) h)
+below→ true a true b h = omega (arith, ltb→lt b a h)
+below→ false a true b h = absurd h
+
+below← : (s : Bool) (a : ℕ) (t : Bool) (b : ℕ) → positive s a + negative t b < positive t b + negative s a → T (below s a t b)
+below← false a false b h = lt→ltb a b (omega arith)
+below← true a false b h = lt→ltb 0 (a + b) (omega arith)
+below← true a true b h = lt→ltb b a (omega arith)
+below← false a true b h = absurd (omega arith)
+
+pub lt-meets : (x y : Float) → T (lt x y) ↔ Less x y
+unfolding lt
+lt-meets nan y = (λ h. h, λ h. h)
+lt-meets (inf true) nan = (λ h. h, λ h. h)
+lt-meets (inf false) nan = (λ h. h, λ h. h)
+lt-meets (inf true) (inf true) = (λ h. h, λ h. h)
+lt-meets (inf true) (inf false) = (λ h. h, λ h. h)
+lt-meets (inf false) (inf true) = (λ h. h, λ h. h)
+lt-meets (inf false) (inf false) = (λ h. h, λ h. h)
+lt-meets (inf true) (fin t n d) = (λ h. h, λ h. h)
+lt-meets (inf false) (fin t n d) = (λ h. h, λ h. h)
+lt-meets (fin s m e) nan = (λ h. h, λ h. h)
+lt-meets (fin s m e) (inf true) = (λ h. h, λ h. h)
+lt-meets (fin s m e) (inf false) = (λ h. h, λ h. h)
+lt-meets (fin s m e) (fin t n d) = (below→ s (m * up e * down d) t (n * up d * down e), below← s (m * up e * down d) t (n * up d * down e))
+
+-- ---- equal
+level→ : (s : Bool) (a : ℕ) (t : Bool) (b : ℕ) → T (level s a t b) → positive s a + negative t b ≡ positive t b + negative s a
+level→ s a t b h = go s t (eqb→eq a b (and-l (eqb a b) (Bool·beq s t || eqb a 0) h)) (and-r (eqb a b) (Bool·beq s t || eqb a 0) h)
+  where
+    go : (s t : Bool) → a ≡ b → T (Bool·beq s t || eqb a 0) → positive s a + negative t b ≡ positive t b + negative s a
+    go true true e k = omega arith
+    go false false e k = omega arith
+    go true false e k = omega (arith, eqb→eq a 0 k)
+    go false true e k = omega (arith, eqb→eq a 0 k)
+
+level← : (s : Bool) (a : ℕ) (t : Bool) (b : ℕ) → positive s a + negative t b ≡ positive t b + negative s a → T (level s a t b)
+level← true a true b h = and-i (eqb a b) true (eq→eqb {a = a} {b = b} (omega arith)) tt
+level← false a false b h = and-i (eqb a b) true (eq→eqb {a = a} {b = b} (omega arith)) tt
+level← true a false b h = and-i (eqb a b) (eqb a 0) (eq→eqb {a = a} {b = b} (omega arith)) (eq→eqb {a = a} {b = 0} (omega arith))
+level← false a true b h = and-i (eqb a b) (eqb a 0) (eq→eqb {a = a} {b = b} (omega arith)) (eq→eqb {a = a} {b = 0} (omega arith))
+
+signs→ : (s t : Bool) → T (Bool·beq s t) → s ≡ t
+signs→ true true h = refl
+signs→ true false h = absurd h
+signs→ false true h = absurd h
+signs→ false false h = refl
+
+signs← : (s t : Bool) → s ≡ t → T (Bool·beq s t)
+signs← true t e = subst (λ (b : Bool). T (Bool·beq true b)) e tt
+signs← false t e = subst (λ (b : Bool). T (Bool·beq false b)) e tt
+
+pub eq-meets : (x y : Float) → T (eq x y) ↔ Same x y
+unfolding eq
+eq-meets nan y = (λ h. h, λ h. h)
+eq-meets (inf s) nan = (λ h. h, λ h. h)
+eq-meets (inf s) (inf t) = (signs→ s t, signs← s t)
+eq-meets (inf s) (fin t n d) = (λ h. h, λ h. h)
+eq-meets (fin s m e) nan = (λ h. h, λ h. h)
+eq-meets (fin s m e) (inf t) = (λ h. h, λ h. h)
+eq-meets (fin s m e) (fin t n d) = (level→ s (m * up e * down d) t (n * up d * down e), level← s (m * up e * down d) t (n * up d * down e))
+
+-- ---- at most
+pub le-meets : (x y : Float) → T (le x y) ↔ AtMost x y
+unfolding le
+le-meets x y = (there, back)
+  where
+    there : T (lt x y || eq x y) → AtMost x y
+    there h = elim (or-split (lt x y) (eq x y) h) [ inl l ↦ inl (lt-meets x y .0 l) | inr e ↦ inr (eq-meets x y .0 e) ]
+
+    back : AtMost x y → T (lt x y || eq x y)
+    back (inl l) = or-l (lt x y) (eq x y) (lt-meets x y .1 l)
+    back (inr e) = or-r (lt x y) (eq x y) (eq-meets x y .1 e)

@@ -1,0 +1,14 @@
+pub mod Order
+pub mod Key32
+pub mod Sums
+pub mod Mono
+pub mod Distance
+pub mod Floors
+pub mod Neighbours
+pub mod Same
+pub mod RoundingLaw
+pub mod OperationsLaw
+pub mod ComparisonLaw
+pub mod Unique
+pub mod RampIndexLaw
+pub mod RampBounds

@@ -1,0 +1,3 @@
+pub mod Tabulated
+pub mod Padding
+pub mod Filling

@@ -1,0 +1,103 @@
+-- A list in an array that has more places: its length, its entries, and one entry more. Assumes nothing.
+use mathlib.Core.Path.{_≡_, refl, sym, ap, _∙_}
+use mathlib.Core.List.{List, [], _∷_, _++_, append-assoc}
+use Prim.Native.Nat.{ℕ, zero, suc, _+_, _-_, _≤_, _<_}
+use mathlib.Core.Logic.{_⊎_, inl, inr}
+use native.Mathlib.Nat.{le-antisymm}
+use native.Mathlib.Numerals.{add-one}
+use native.Mathlib.Omega.{arith}
+use mathlib.Core.Bool.{Bool, true, false, not}
+use lib.Dec.{T, ltb, ltb→lt, nltb→le}
+use lib.ListN.{length, getD, take, set, replicate, length-append, length-replicate, getD-replicate, List·getD-append, List·getD-eq-default}
+use lib.Seq.{set-at, take-append-seam, getD-append-add}
+use Rattle.lists.specs.Tabulate.{tabulate}
+use Rattle.lists.specs.Padded.{padded}
+use Rattle.lists.proofs.Tabulated.{length-tabulate, tabulated}
+
+-- which of two numbers is the less
+lt-or-le : (a b : ℕ) → (a < b) ⊎ (b ≤ a)
+lt-or-le a b = go (ltb a b) (ltb→lt a b) (nltb→le a b)
+  where
+    go : (t : Bool) → (T t → a < b) → (T (not t) → b ≤ a) → (a < b) ⊎ (b ≤ a)
+    go true y n = inl (y tt)
+    go false y n = inr (n tt)
+
+module _ {A : Type 0} (z : A) (n : ℕ) where
+  pub length-padded : (xs : List A) → length xs ≤ n → length (padded z n xs) ≡ n
+  unfolding padded
+  length-padded xs h = omega (arith, length-append xs (replicate (n - length xs) z), length-replicate (n - length xs) z)
+
+  pub padded-none : padded z n [] ≡ replicate n z
+  unfolding padded
+  padded-none = let e : n - 0 ≡ n = omega arith in ap (λ (m : ℕ). replicate m z) e
+
+  pub take-padded : (xs : List A) → take (length xs) (padded z n xs) ≡ xs
+  unfolding padded
+  take-padded xs = take-append-seam xs (replicate (n - length xs) z)
+
+  -- within the list its entries, and past its end z
+  pub getD-padded : (xs : List A) (k : ℕ) (y : A) → k < length xs → getD (padded z n xs) k y ≡ getD xs k y
+  unfolding padded
+  getD-padded xs k y h = List·getD-append xs (replicate (n - length xs) z) y k h
+
+  blank : (m : ℕ) → 0 < m → replicate m z ≡ z ∷ replicate (m - 1) z
+  blank zero h = absurd (omega arith)
+  blank (suc m) h = ap (λ (j : ℕ). z ∷ replicate j z) (less m)
+    where
+      less : (m : ℕ) → m ≡ suc m - 1
+      less m = omega arith
+
+  -- the store of x in the first unused place
+  pub padded-more : (xs : List A) (x : A) (i : ℕ) → length xs ≡ i → i < n → set (padded z n xs) i x ≡ padded z n (xs ++ (x ∷ []))
+  unfolding padded
+  padded-more xs x i e h =
+      let m : n - length (xs ++ (x ∷ [])) ≡ n - length xs - 1 = omega (arith, length-append xs (x ∷ [])) in
+      ap (λ (r : List A). set (xs ++ r) i x) (blank (n - length xs) (omega arith))
+      ∙ set-at xs z (replicate (n - length xs - 1) z) x i e
+      ∙ sym (append-assoc xs (x ∷ []) (replicate (n - length (xs ++ (x ∷ []))) z) ∙ ap (λ (j : ℕ). xs ++ x ∷ replicate j z) m)
+
+  -- an entry past the list's end
+  rest : (xs : List A) (k : ℕ) → length xs ≤ k → k < n → getD (padded z n xs) k z ≡ z
+  unfolding padded
+  rest xs k h g =
+      let e : k ≡ length xs + (k - length xs) = omega arith in
+      ap (λ (j : ℕ). getD (xs ++ replicate (n - length xs) z) j z) e
+      ∙ getD-append-add xs (replicate (n - length xs) z) (k - length xs) z ∙ getD-replicate (n - length xs) (k - length xs) z z (omega arith)
+
+-- one entry more by the rule
+next : {A : Type 0} (n : ℕ) (f : ℕ → A) → tabulate (suc n) f ≡ tabulate n f ++ (f n ∷ [])
+unfolding tabulate
+next zero f = refl
+next (suc n) f = ap (λ r. f zero ∷ r) (next n (λ k. f (suc k)))
+
+pub tabulate-more : {A : Type 0} (n : ℕ) (f : ℕ → A) → tabulate (n + 1) f ≡ tabulate n f ++ (f n ∷ [])
+tabulate-more n f = ap (λ (m : ℕ). tabulate m f) (add-one n) ∙ next n f
+
+-- all places by the list's entries, and z past its end
+pub tabulate-padded : {A : Type 0} (z : A) (n : ℕ) (xs : List A) → length xs ≤ n → tabulate n (λ k. getD xs k z) ≡ padded z n xs
+tabulate-padded z n xs h =
+    sym
+    (tabulated z n (λ k. getD xs k z) (padded z n xs) (length-padded z n xs h)
+    (λ k q. elim (lt-or-le k (length xs)) [ inl l ↦ getD-padded z n xs k z l | inr l ↦ rest z n xs k l q ∙ sym (List·getD-eq-default xs z l) ]))
+
+-- ---- a loop that stores f k in place k of an array of n, for each k below l, and leaves z in the others: its invariant at i, the first turn, each turn and the end
+pub record Storing {A : Type 0} (z : A) (f : ℕ → A) (n l i : ℕ) (r : List A) : Type 0 where
+  pub upto : i ≤ l
+  pub is : r ≡ padded z n (tabulate i f)
+
+module _ {A : Type 0} {z : A} {f : ℕ → A} {n l : ℕ} where
+  pub storing-start : Storing z f n l 0 (replicate n z)
+  unfolding tabulate
+  storing-start = record { upto = omega arith; is = sym (padded-none z n) }
+
+  pub storing-turn : {i : ℕ} {r : List A} {x : A} → Storing z f n l i r → i < l → l ≤ n → x ≡ f i → Storing z f n l (i + 1) (set r i x)
+  storing-turn {i} {r} {x} s h g e =
+      record {
+        upto = omega arith;
+        is =
+            ap (λ (y : List A). set y i x) (s .is) ∙ padded-more z n (tabulate i f) x i (length-tabulate i f) (omega arith)
+            ∙ ap (λ (y : A). padded z n (tabulate i f ++ (y ∷ []))) e ∙ ap (padded z n) (sym (tabulate-more i f));
+      }
+
+  pub storing-end : {i : ℕ} {r : List A} → Storing z f n l i r → l ≤ i → r ≡ padded z n (tabulate l f)
+  storing-end s h = s .is ∙ ap (λ (i : ℕ). padded z n (tabulate i f)) (le-antisymm (s .upto) h)

@@ -1,0 +1,9 @@
+-- What the lanes of an array hold. Definitions only.
+use mathlib.Core.Path.{_≡_}
+use mathlib.Core.List.{List}
+use Prim.Native.Nat.{ℕ, _<_}
+use lib.ListN.{getD}
+
+-- each lane k below l holds f k; nothing is said of the lanes from l on (z is what a list holds past its end)
+abbrev pub Lanes : {A : Type 0} → A → ℕ → List A → (ℕ → A) → Type 0
+Lanes z l r f = (k : ℕ) → k < l → getD r k z ≡ f k
