@@ -1,13 +1,14 @@
 // Settings, and the colours of samples that a legend does not map (docs/RULES.md, "Samples and settings").
 use cast::Nodata;
 ghost use mathlib.Core.Path.{_≡_};
-ghost use mathlib.Core.Bool.{cond, false};
+ghost use mathlib.Core.Bool.{cond};
 ghost use Prim.Native.Nat.{_≤_};
 ghost use lib.Ieee.{nan};
 ghost use lib.ListN.{getD};
+ghost use Rattle.floats.specs.RampIndex.{nought};
 ghost use Rattle.lists.specs.Lanes.{Lanes};
 ghost use Rattle.colormapper.specs.Settings.{orElse, unmappableColors, noSettings};
-ghost use Rattle.colormapper.specs.Unmappable.{unmappable, excluded, exclusionsOf};
+ghost use Rattle.colormapper.specs.Unmappable.{unmappable, excluded, valueOrNan, exclusionsOf};
 
 // A colour that may be absent.
 pub enum OptionalColor {
@@ -74,23 +75,34 @@ pub fn compute_unmappable_colors(config: MappingConfig, low: u32, high: u32) -> 
 
 // Whether a sample gets the nodata colour.
 pub fn is_unmappable(value: f32, nodata: Nodata, zero_is_nodata: bool) -> bool
-    ensures { λ r. ⌜ r ≡ unmappable nodata zero_is_nodata value ⌝ }
+    ensures { λ r. ⌜ r ≡ unmappable nodata «zero_is_nodata» value ⌝ }
 {
     exclusions_of(nodata, zero_is_nodata).excludes(value)
 }
 
 // What the test of a sample needs, worked out once for a painting.
 pub fn exclusions_of(nodata: Nodata, zero_is_nodata: bool) -> Exclusions
-    ensures { λ r. ⌜ r ≡ exclusionsOf nodata zero_is_nodata ⌝ }
+    ensures { λ r. ⌜ r ≡ exclusionsOf nodata «zero_is_nodata» ⌝ }
 {
-    let none = 0.0f32 / 0.0f32;
     Exclusions {
-        nodata: match nodata {
-            Nodata::Value(v) => v,
-            Nodata::Absent => none,
-        },
-        zero: if zero_is_nodata { 0.0 } else { none },
+        nodata: value_or_nan(nodata),
+        zero: zero_or_nan(zero_is_nodata),
     }
+}
+
+fn value_or_nan(nodata: Nodata) -> f32
+    ensures { λ r. ⌜ r ≡ valueOrNan nodata ⌝ }
+{
+    match nodata {
+        Nodata::Value(v) => v,
+        Nodata::Absent => 0.0 / 0.0,
+    }
+}
+
+fn zero_or_nan(flag: bool) -> f32
+    ensures { λ r. ⌜ r ≡ cond flag nought nan ⌝ }
+{
+    if flag { 0.0 } else { 0.0 / 0.0 }
 }
 
 impl Exclusions {
@@ -109,7 +121,13 @@ impl Exclusions {
     }
 
     // The same for each lane. The lane count is a literal of the caller's.
-    pub fn masked_simd(self, lanes: usize, value: [f32; 16], nodata: u32, color: [u32; 16]) -> [u32; 16]
+    pub fn masked_simd(
+        self,
+        lanes: usize,
+        value: [f32; 16],
+        nodata: u32,
+        color: [u32; 16],
+    ) -> [u32; 16]
         requires { ⌜ lanes ≤ 16 ⌝ }
         ensures { λ r. ⌜ Lanes 0 lanes r (λ k. cond (excluded self (getD value k nan)) nodata (getD color k 0)) ⌝ }
     {
