@@ -1,5 +1,4 @@
 pub mod Channels
 pub mod Places
 pub mod Lookups
-pub mod Table
 pub mod Making

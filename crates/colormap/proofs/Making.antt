@@ -16,9 +16,10 @@ use Rattle.refusal.proofs.Outcomes.{passed, when-done, when-refused}
 use Rattle.colormap.specs.declared.ProcessedColorMap.{ProcessedColorMap}
 use Rattle.colormap.specs.declared.MadeRamp.{MadeRamp}
 use Rattle.colormap.specs.Spread.{spread}
-use Rattle.colormap.specs.Made.{listRefusal, presetRefusal, emptyRamp, spreadUnless, rampOfList, rampOfPreset, paletteOf}
-use Rattle.colormap.specs.Palettes.{palette}
-use Rattle.colormap.proofs.Table.{sizes}
+use Rattle.colormap.specs.Made.{listRefusal, emptyRamp, spreadUnless, rampOfList, rampOfPreset}
+use Rattle.palettes.specs.Asked.{presetRefusal, paletteOf}
+use Rattle.palettes.specs.Palettes.{palette}
+use Rattle.palettes.proofs.InTable.{sizes}
 
 pub enough : (n : ℕ) → listRefusal n ≡ Done → 2 ≤ n
 unfolding listRefusal

@@ -1,4 +1,3 @@
-pub mod Palettes
 pub mod Lookup
 pub mod Positions
 pub mod Spread

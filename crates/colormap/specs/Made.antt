@@ -1,17 +1,16 @@
--- Ramps and palettes that are asked for, refusals included (docs/RULES.md, "Where each call says no"). Definitions only.
+-- Ramps that are asked for, refusals included (docs/RULES.md, "Where each call says no"). Definitions only.
 use Prim.Native.Nat.{ℕ}
 use mathlib.Core.List.{List}
 use lib.Dec.{ltb}
 use lib.ListN.{length, replicate}
-use Rattle.refusal.specs.declared.Refusal.the-variants.{TooFewColors, TooManyColors, NoSuchPalette}
+use Rattle.refusal.specs.declared.Refusal.the-variants.{TooFewColors, TooManyColors}
 use Rattle.refusal.specs.declared.Answer.{Answer}
 use Rattle.refusal.specs.declared.Answer.the-variants.{Done}
 use Rattle.refusal.specs.Outcome.{refuseIf, ifDone}
 use Rattle.colormap.specs.declared.ProcessedColorMap.{ProcessedColorMap}
 use Rattle.colormap.specs.declared.MadeRamp.{MadeRamp}
-use Rattle.colormap.specs.declared.Palette.{Palette}
-use Rattle.lists.specs.Padded.{padded}
-use Rattle.colormap.specs.Palettes.{palette}
+use Rattle.palettes.specs.Palettes.{palette}
+use Rattle.palettes.specs.Asked.{presetRefusal}
 use Rattle.colormap.specs.Spread.{spread}
 
 abbrev pub emptyRamp : ProcessedColorMap
@@ -20,10 +19,6 @@ emptyRamp = record { cmap = replicate 256 0 }
 -- 4 fewer than 2 colours; 5 more than 256
 unfoldable pub listRefusal : ℕ → Answer
 listRefusal count = refuseIf (ltb count 2) TooFewColors (refuseIf (ltb 256 count) TooManyColors Done)
-
--- 6 number above 31
-unfoldable pub presetRefusal : ℕ → Answer
-presetRefusal number = refuseIf (ltb 31 number) NoSuchPalette Done
 
 -- the colours spread, or the empty ramp beside a refusal
 unfoldable pub spreadUnless : Answer → List ℕ → MadeRamp
@@ -34,7 +29,3 @@ rampOfList colors = spreadUnless (listRefusal (length colors)) colors
 
 abbrev pub rampOfPreset : ℕ → MadeRamp
 rampOfPreset number = spreadUnless (presetRefusal number) (palette number)
-
--- a palette's colours, then zeros
-unfoldable pub paletteOf : ℕ → Palette
-paletteOf number = record { answer = presetRefusal number; colors = padded 0 12 (palette number); count = length (palette number) }

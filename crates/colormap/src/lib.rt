@@ -1,10 +1,6 @@
-// Palettes and ramps (docs/RULES.md, "Colours and ramps").
-mod palettes;
+// Ramps (docs/RULES.md, "Colours and ramps").
 
 use color::Color;
-use palettes::COLORS;
-use palettes::LENGTHS;
-use palettes::OFFSETS;
 use refusal::Answer;
 use refusal::Refusal;
 ghost use mathlib.Core.Path.{_≡_};
@@ -18,8 +14,7 @@ ghost use Rattle.colormap.specs.Lookup.{plainEntry, laneEntry, entryColo
 ghost use Rattle.colormap.specs.Spread.{channel, blend, spreadAt, spread};
 ghost use Rattle.lists.specs.Padded.{padded};
 ghost use Rattle.colormap.specs.Positions.{step, position, rampColors};
-ghost use Rattle.colormap.specs.Palettes.{palette, table, offset};
-ghost use Rattle.colormap.specs.Made.{listRefusal, presetRefusal, emptyRamp, rampOfList, rampOfPreset, paletteOf};
+ghost use Rattle.colormap.specs.Made.{listRefusal, emptyRamp, rampOfList, rampOfPreset};
 
 // A ramp: exactly 256 colours.
 pub struct ProcessedColorMap {
@@ -30,13 +25,6 @@ pub struct ProcessedColorMap {
 pub struct MadeRamp {
     pub answer: Answer,
     pub ramp: ProcessedColorMap,
-}
-
-// A palette's colours: the first `count`, and 0 from there on. No colours beside a refusal.
-pub struct Palette {
-    pub answer: Answer,
-    pub colors: [u32; 12],
-    pub count: usize,
 }
 
 // What a fraction is looked up as.
@@ -198,7 +186,7 @@ pub fn create(colors: &[u32]) -> MadeRamp
 pub fn create_for_preset(number: usize) -> MadeRamp
     ensures { λ r. ⌜ r ≡ rampOfPreset number ⌝ }
 {
-    let chosen = palette_of(number);
+    let chosen = palettes::palette_of(number);
     let answer = chosen.answer;
     if let Answer::Refused(_) = answer {
         return MadeRamp {
@@ -319,76 +307,4 @@ pub fn list_colors(colors: &[u32]) -> [u32; 256]
         i += 1;
     }
     result
-}
-
-// ---- palettes
-
-// The colours of a palette's number.
-pub fn palette_of(number: usize) -> Palette
-    ensures { λ r. ⌜ r ≡ paletteOf number ⌝ }
-{
-    let answer = preset_refusal(number);
-    let colors = palette_colors(number);
-    let count = palette_length(number);
-    Palette {
-        answer,
-        colors,
-        count,
-    }
-}
-
-fn preset_refusal(number: usize) -> Answer
-    ensures { λ r. ⌜ r ≡ presetRefusal number ⌝ }
-{
-    if number > 31 {
-        return Answer::Refused(Refusal::NoSuchPalette);
-    }
-    Answer::Done
-}
-
-fn palette_colors(number: usize) -> [u32; 12]
-    ensures { λ r. ⌜ r ≡ padded 0 12 (palette number) ⌝ }
-{
-    let mut colors = [0u32; 12];
-    let mut i: usize = 0;
-    while i < 12 {
-        colors[i] = palette_color(number, i);
-        i += 1;
-    }
-    colors
-}
-
-// One colour of a palette, 0 beyond its end and for no palette.
-pub fn palette_color(number: usize, index: usize) -> u32
-    ensures { λ r. ⌜ r ≡ getD (palette number) index 0 ⌝ }
-{
-    if index >= palette_length(number) {
-        return 0;
-    }
-    table_color(offset_of(number) + index)
-}
-
-// Where a palette begins in the table.
-fn offset_of(number: usize) -> usize
-    requires { ⌜ number < 32 ⌝ }
-    ensures { λ r. ⌜ r ≡ offset number ⌝ }
-{
-    OFFSETS[number]
-}
-
-fn table_color(at: usize) -> u32
-    requires { ⌜ at < 304 ⌝ }
-    ensures { λ r. ⌜ r ≡ getD table at 0 ⌝ }
-{
-    COLORS[at]
-}
-
-// How many colours a palette has, 0 for no palette.
-pub fn palette_length(number: usize) -> usize
-    ensures { λ r. ⌜ r ≡ length (palette number) ⌝ }
-{
-    if number > 31 {
-        return 0;
-    }
-    LENGTHS[number]
 }

@@ -11,7 +11,8 @@ use lib.Pow.{pow-add, pow-pos, pow-lt, pow-mono}
 use lib.Ieee.{Float, nan, inf, fin, binary32, up, down, le, fits, ofBits}
 use lib.Ieee.Fits.{up-pos, and-l, and-r}
 use lib.Ieee.Scale.{finite}
-use Rattle.floats.proofs.Order.{depth, size-at, sizeOf, key→le, lt-or-le, down-is}
+use Rattle.floats.proofs.Order.{depth, size-at, sizeOf, key→le, down-is}
+use Rattle.lists.proofs.Numbers.{lt-or-le}
 
 pub power-lt : (i j : ℕ) → 2 ^ i < 2 ^ j → i < j
 power-lt i j h = elim (lt-or-le i j) [ inl l ↦ l | inr l ↦ absurd (not-le-of-lt h (pow-mono l)) ]

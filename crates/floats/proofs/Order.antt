@@ -13,6 +13,7 @@ use lib.Pow.{pow-add, pow-pos}
 use lib.Ieee.{Float, nan, inf, fin, up, down, below, level, lt, eq, le, isNan}
 use lib.Ieee.Scale.{finite}
 use lib.Ieee.Fits.{eq→eqb, and-i, and-l, and-r}
+use Rattle.lists.proofs.Numbers.{lt-or-le}
 
 pub or-split : (a b : Bool) → T (a || b) → T a ⊎ T b
 or-split true b t = inl tt
@@ -25,13 +26,6 @@ or-l false b t = absurd t
 pub or-r : (a b : Bool) → T b → T (a || b)
 or-r true b t = tt
 or-r false b t = t
-
-pub lt-or-le : (a b : ℕ) → (a < b) ⊎ (b ≤ a)
-lt-or-le a b = go (ltb a b) (ltb→lt a b) (nltb→le a b)
-  where
-    go : (t : Bool) → (T t → a < b) → (T (not t) → b ≤ a) → (a < b) ⊎ (b ≤ a)
-    go true f g = inl (f tt)
-    go false f g = inr (g tt)
 
 -- ---- the exponent below zero: down e is 2 ^ depth e
 abbrev pub depth : ℤ → ℕ

@@ -12,7 +12,8 @@ use lib.Ieee.{Float, nan, inf, fin, binary32, up, down, add, mul, le, lt, isNan,
 use lib.Ieee.Fits.{and-i, and-l, and-r}
 use lib.Ieee.Scale.{finite}
 use Rattle.floats.specs.RampIndex.{floorOf, halfUp, c255, half, plainIndex, laneIndex, one, nought, inUnit}
-use Rattle.floats.proofs.Order.{le-le, le-lt, lt-le, le-refl-float, lt-or-le, between}
+use Rattle.floats.proofs.Order.{le-le, le-lt, lt-le, le-refl-float, between}
+use Rattle.lists.proofs.Numbers.{lt-or-le}
 use Rattle.floats.proofs.Mono.{add-mono, mul-mono-by}
 use Rattle.floats.proofs.Floors.{floor-mono, half-mono, up-from, down-from}
 

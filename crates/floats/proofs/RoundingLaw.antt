@@ -13,7 +13,7 @@ use lib.Ieee.Digits.{size-reaches}
 use lib.Ieee.Fits.{kept-lt, nearest-le, round-is}
 use lib.Ieee.Exact.{HasValue, units-val}
 use lib.Ieee.Nearest.{nearest-ge}
-use Rattle.floats.proofs.Order.{lt-or-le}
+use Rattle.lists.proofs.Numbers.{lt-or-le}
 use lib.Ieee.Order.{round-mono}
 use Rattle.floats.proofs.Neighbours.{apart, power-lt}
 use Rattle.floats.proofs.Mono.{round-neg}

@@ -14,7 +14,7 @@ use Rattle.floats.proofs.Same.{value→same}
 use Rattle.floats.proofs.OperationsLaw.{add-meets, sub-meets, mul-meets, div-meets}
 use Rattle.floats.specs.Signed.{positive, negative}
 use Rattle.floats.specs.Operations.{Sum, Adds, opposite, Subtracts, Multiplies, Divides}
-use Rattle.floats.proofs.Order.{lt-or-le}
+use Rattle.lists.proofs.Numbers.{lt-or-le}
 use Rattle.floats.proofs.Neighbours.{apart, power-lt}
 use Rattle.floats.specs.Rounding.{Datum, Even, far, Nearest, limit, Rounds}
 

@@ -1,3 +1,4 @@
+pub mod Numbers
 pub mod Tabulated
 pub mod Padding
 pub mod Filling

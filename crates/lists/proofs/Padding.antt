@@ -2,25 +2,16 @@
 use mathlib.Core.Path.{_≡_, refl, sym, ap, _∙_}
 use mathlib.Core.List.{List, [], _∷_, _++_, append-assoc}
 use Prim.Native.Nat.{ℕ, zero, suc, _+_, _-_, _≤_, _<_}
-use mathlib.Core.Logic.{_⊎_, inl, inr}
+use mathlib.Core.Logic.{inl, inr}
 use native.Mathlib.Nat.{le-antisymm}
 use native.Mathlib.Numerals.{add-one}
 use native.Mathlib.Omega.{arith}
-use mathlib.Core.Bool.{Bool, true, false, not}
-use lib.Dec.{T, ltb, ltb→lt, nltb→le}
 use lib.ListN.{length, getD, take, set, replicate, length-append, length-replicate, getD-replicate, List·getD-append, List·getD-eq-default}
 use lib.Seq.{set-at, take-append-seam, getD-append-add}
+use Rattle.lists.proofs.Numbers.{lt-or-le}
 use Rattle.lists.specs.Tabulate.{tabulate}
 use Rattle.lists.specs.Padded.{padded}
 use Rattle.lists.proofs.Tabulated.{length-tabulate, tabulated}
-
--- which of two numbers is the less
-lt-or-le : (a b : ℕ) → (a < b) ⊎ (b ≤ a)
-lt-or-le a b = go (ltb a b) (ltb→lt a b) (nltb→le a b)
-  where
-    go : (t : Bool) → (T t → a < b) → (T (not t) → b ≤ a) → (a < b) ⊎ (b ≤ a)
-    go true y n = inl (y tt)
-    go false y n = inr (n tt)
 
 module _ {A : Type 0} (z : A) (n : ℕ) where
   pub length-padded : (xs : List A) → length xs ≤ n → length (padded z n xs) ≡ n

@@ -1,12 +1,13 @@
 use Rattle.lists.proofs.Padding.{length-padded}
 use lib.Seq.{length-take-le}
 use lib.ListN.{take}
-use Rattle.colormap.proofs.Table.{sizes}
+use Rattle.palettes.proofs.InTable.{sizes}
 use Rattle.colormap.proofs.Making.{refused, numbered, by-number}
-use Rattle.colormap.specs.Made.{presetRefusal, paletteOf, rampOfList}
+use Rattle.colormap.specs.Made.{rampOfList}
+use Rattle.palettes.specs.Asked.{presetRefusal, paletteOf}
 use Rattle.refusal.specs.declared.Answer.the-variants.{Done}
-use Rattle.colormap.specs.Palettes.{palette}
-use Rattle.colormap.specs.declared.Palette.{Palette}
+use Rattle.palettes.specs.Palettes.{palette}
+use Rattle.palettes.specs.declared.Palette.{Palette}
 use native.Mathlib.Omega.{arith}
 use Prim.Native.Nat.{ℕ, _+_, _*_, _-_, _/_, _%_, _^_, _<_, _≤_}
 use mathlib.Core.Path.{_≡_, sym, subst, refl, ap, _∙_}
@@ -18,7 +19,6 @@ use Rattle.colormap.proofs.create_for_preset.Reads as reads
 use Rattle.colormap.proofs.create_for_preset.Lts as lts
 use Rattle.colormap.proofs.ProcessedColorMap.default.Reads as default-reads
 use Rattle.colormap.proofs.create.Reads as create-reads
-use Rattle.colormap.proofs.palette_of.Reads as palette-of-reads
 
 -- src/lib.rt:185:9
 palette-of-requires : tie.Need-palette-of-requires

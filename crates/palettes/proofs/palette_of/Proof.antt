@@ -2,15 +2,15 @@ use native.Mathlib.Omega.{arith}
 use Prim.Native.Nat.{ℕ, _+_, _*_, _-_, _/_, _%_, _^_, _<_, _≤_}
 use mathlib.Core.Path.{_≡_, sym, subst, refl, ap, _∙_}
 use lib.ListN.{length, getD}
-use Rattle.colormap.specs.Made.{paletteOf}
+use Rattle.palettes.specs.Asked.{paletteOf}
 use borrow.Author.Needs.{needs}
-use Rattle.colormap.proofs.palette_of.Statement.{statement}
-use Rattle.colormap.proofs.palette_of.Tie as tie
-use Rattle.colormap.proofs.palette_of.Reads as reads
-use Rattle.colormap.proofs.palette_of.Lts as lts
-use Rattle.colormap.proofs.palette_colors.Reads as palette-colors-reads
-use Rattle.colormap.proofs.palette_length.Reads as palette-length-reads
-use Rattle.colormap.proofs.preset_refusal.Reads as preset-refusal-reads
+use Rattle.palettes.proofs.palette_of.Statement.{statement}
+use Rattle.palettes.proofs.palette_of.Tie as tie
+use Rattle.palettes.proofs.palette_of.Reads as reads
+use Rattle.palettes.proofs.palette_of.Lts as lts
+use Rattle.palettes.proofs.palette_colors.Reads as palette-colors-reads
+use Rattle.palettes.proofs.palette_length.Reads as palette-length-reads
+use Rattle.palettes.proofs.preset_refusal.Reads as preset-refusal-reads
 
 -- src/lib.rt:265:9
 preset-refusal-requires : tie.Need-preset-refusal-requires

@@ -3,12 +3,12 @@ use native.Mathlib.Omega.{arith}
 use Prim.Native.Nat.{ℕ, _+_, _*_, _-_, _/_, _%_, _^_, _<_, _≤_}
 use mathlib.Core.Path.{_≡_, sym, subst, refl, ap, _∙_}
 use lib.ListN.{length, getD}
-use Rattle.colormap.specs.Made.{presetRefusal}
+use Rattle.palettes.specs.Asked.{presetRefusal}
 use borrow.Author.Tests.{lt-ltb, le-ltb}
-use Rattle.colormap.proofs.preset_refusal.Statement.{statement}
-use Rattle.colormap.proofs.preset_refusal.Tie as tie
-use Rattle.colormap.proofs.preset_refusal.Reads as reads
-use Rattle.colormap.proofs.preset_refusal.Lts as lts
+use Rattle.palettes.proofs.preset_refusal.Statement.{statement}
+use Rattle.palettes.proofs.preset_refusal.Tie as tie
+use Rattle.palettes.proofs.preset_refusal.Reads as reads
+use Rattle.palettes.proofs.preset_refusal.Lts as lts
 
 -- src/lib.rt:279:9
 returns : tie.Need-returns

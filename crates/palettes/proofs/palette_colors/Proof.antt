@@ -1,4 +1,4 @@
-use Rattle.colormap.proofs.Table.{size-le}
+use Rattle.palettes.proofs.InTable.{size-le}
 use Rattle.lists.proofs.Padding.{tabulate-padded}
 use borrow.Author.Needs.{needs}
 use native.Mathlib.Omega.{arith}
@@ -6,12 +6,12 @@ use Prim.Native.Nat.{ℕ, _+_, _*_, _-_, _/_, _%_, _^_, _<_, _≤_}
 use mathlib.Core.Path.{_≡_, sym, subst, refl, ap, _∙_}
 use lib.ListN.{length, getD}
 use Rattle.lists.proofs.Filling.{Filling, filling-start, filling-turn, filled}
-use Rattle.colormap.specs.Palettes.{palette}
-use Rattle.colormap.proofs.palette_colors.Statement.{statement}
-use Rattle.colormap.proofs.palette_colors.Tie as tie
-use Rattle.colormap.proofs.palette_colors.Reads as reads
-use Rattle.colormap.proofs.palette_colors.Lts as lts
-use Rattle.colormap.proofs.palette_color.Reads as palette-color-reads
+use Rattle.palettes.specs.Palettes.{palette}
+use Rattle.palettes.proofs.palette_colors.Statement.{statement}
+use Rattle.palettes.proofs.palette_colors.Tie as tie
+use Rattle.palettes.proofs.palette_colors.Reads as reads
+use Rattle.palettes.proofs.palette_colors.Lts as lts
+use Rattle.palettes.proofs.palette_color.Reads as palette-color-reads
 
 abbrev Inv-loop : tie.InvT-loop
 Inv-loop number colors₀ i₀ colors i = Filling 0 (λ k. getD (palette number) k 0) 12 12 i colors

@@ -1,18 +1,18 @@
 use lib.ListN.{List·getD-eq-default}
-use Rattle.colormap.proofs.Table.{known, in-table, offset-room}
-use Rattle.colormap.specs.Palettes.{palette, table, offset}
+use Rattle.palettes.proofs.InTable.{known, in-table, offset-room}
+use Rattle.palettes.specs.Palettes.{palette, table, offset}
 use native.Mathlib.Omega.{arith}
 use Prim.Native.Nat.{ℕ, _+_, _*_, _-_, _/_, _%_, _^_, _<_, _≤_}
 use mathlib.Core.Path.{_≡_, sym, subst, refl, ap, _∙_}
 use lib.ListN.{length, getD}
 use borrow.Author.Needs.{needs}
-use Rattle.colormap.proofs.palette_color.Statement.{statement}
-use Rattle.colormap.proofs.palette_color.Tie as tie
-use Rattle.colormap.proofs.palette_color.Reads as reads
-use Rattle.colormap.proofs.palette_color.Lts as lts
-use Rattle.colormap.proofs.offset_of.Reads as offset-of-reads
-use Rattle.colormap.proofs.palette_length.Reads as palette-length-reads
-use Rattle.colormap.proofs.table_color.Reads as table-color-reads
+use Rattle.palettes.proofs.palette_color.Statement.{statement}
+use Rattle.palettes.proofs.palette_color.Tie as tie
+use Rattle.palettes.proofs.palette_color.Reads as reads
+use Rattle.palettes.proofs.palette_color.Lts as lts
+use Rattle.palettes.proofs.offset_of.Reads as offset-of-reads
+use Rattle.palettes.proofs.palette_length.Reads as palette-length-reads
+use Rattle.palettes.proofs.table_color.Reads as table-color-reads
 
 -- src/lib.rt:300:17
 palette-length-requires : tie.Need-palette-length-requires

@@ -3,14 +3,14 @@ use native.Mathlib.Omega.{arith}
 use Prim.Native.Nat.{ℕ, _+_, _*_, _-_, _/_, _%_, _^_, _<_, _≤_}
 use mathlib.Core.Path.{_≡_, sym, subst, refl, ap, _∙_}
 use lib.ListN.{length, getD}
-use Rattle.colormap.specs.Palettes.{palettes, palette, table, offset}
-use Rattle.colormap.proofs.Table.{read, none, in-table, offset-room}
+use Rattle.palettes.specs.Palettes.{palettes, palette, table, offset}
+use Rattle.palettes.proofs.InTable.{read, none, in-table, offset-room}
 use Rattle.color.specs.Word.{wordOf}
 use borrow.Author.Needs.{needs}
-use Rattle.colormap.proofs.table_color.Statement.{statement}
-use Rattle.colormap.proofs.table_color.Tie as tie
-use Rattle.colormap.proofs.table_color.Reads as reads
-use Rattle.colormap.proofs.table_color.Lts as lts
+use Rattle.palettes.proofs.table_color.Statement.{statement}
+use Rattle.palettes.proofs.table_color.Tie as tie
+use Rattle.palettes.proofs.table_color.Reads as reads
+use Rattle.palettes.proofs.table_color.Lts as lts
 
 -- src/lib.rt:318:5
 mul-result : tie.Need-mul-result

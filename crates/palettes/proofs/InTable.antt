@@ -10,9 +10,9 @@ use lib.Ieee.Fits.{and-l, and-r}
 use lib.ListN.{length, getD, take, length-append, List·getD-append, List·getD-eq-default}
 use lib.Seq.{getD-append-add}
 use mathlib.Core.Logic.{inl, inr}
-use Rattle.floats.proofs.Order.{lt-or-le}
+use Rattle.lists.proofs.Numbers.{lt-or-le}
 use Rattle.color.specs.Word.{wordOf}
-use Rattle.colormap.specs.Palettes.{palettes, palette, table, offset}
+use Rattle.palettes.specs.Palettes.{palettes, palette, table, offset}
 
 -- a test at each place of a list, the first being i
 abbrev pub every : (ℕ → ℕ → Bool) → ℕ → List ℕ → Bool
