@@ -1,4 +1,3 @@
 pub mod Channels
 pub mod Places
-pub mod Lookups
 pub mod Making

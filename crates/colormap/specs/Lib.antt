@@ -1,4 +1,3 @@
-pub mod Lookup
 pub mod Positions
 pub mod Spread
 pub mod Made

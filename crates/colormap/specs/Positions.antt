@@ -7,7 +7,7 @@ use lib.IntN.{pos}
 use lib.Ieee.{Float, binary32, add, sub, div, ofInt}
 use Rattle.floats.specs.RampIndex.{nought, one}
 use Rattle.lists.specs.Tabulate.{tabulate}
-use Rattle.colormap.specs.Lookup.{plainEntry, entryColor}
+use Rattle.lookup.specs.Entries.{plainEntry, entryColor}
 
 -- s = 1 / (count - 1), or 0 for one colour
 unfoldable pub step : (count : ℕ) → Float

@@ -1,40 +1,30 @@
+-- `blended_channel` meets its contract. Assumes nothing.
 use native.Mathlib.Omega.{arith}
-use Prim.Native.Nat.{ℕ, _+_, _*_, _-_, _/_, _%_, _^_, _<_, _≤_}
-use mathlib.Core.Path.{_≡_, sym, subst, refl, ap, _∙_}
-use lib.ListN.{length, getD}
+use mathlib.Core.Path.{refl}
 use Rattle.colormap.specs.Spread.{channel}
 use Rattle.colormap.proofs.Channels.{near-fits, far-fits, sum-fits, channel-fits}
 use borrow.Author.Needs.{needs}
 use Rattle.colormap.proofs.blended_channel.Statement.{statement}
 use Rattle.colormap.proofs.blended_channel.Tie as tie
-use Rattle.colormap.proofs.blended_channel.Reads as reads
-use Rattle.colormap.proofs.blended_channel.Lts as lts
 
--- src/lib.rt:254:21
 sub-result : tie.Need-sub-result
 sub-result c = search needs
 
--- src/lib.rt:254:7
 mul-result : tie.Need-mul-result
 mul-result c = omega (arith, near-fits (c .args .r) (c .args .c) (c .args .d) (search needs) (search needs) (search needs))
 
--- src/lib.rt:254:32
 mul-result-2 : tie.Need-mul-result-2
 mul-result-2 c = omega (arith, far-fits (c .args .r) (c .args .c) (c .args .d) (search needs) (search needs) (search needs))
 
--- src/lib.rt:254:7
 add-result : tie.Need-add-result
 add-result c = omega (arith, sum-fits (c .args .r) (c .args .c) (c .args .d) (search needs) (search needs) (search needs))
 
--- src/lib.rt:254:7
 add-result-2 : tie.Need-add-result-2
 add-result-2 c = omega (arith, sum-fits (c .args .r) (c .args .c) (c .args .d) (search needs) (search needs) (search needs))
 
--- src/lib.rt:254:5
 cast-result : tie.Need-cast-result
 cast-result c = omega (arith, channel-fits (c .args .r) (c .args .c) (c .args .d) (search needs) (search needs) (search needs))
 
--- src/lib.rt:250:1
 returns : tie.Need-returns
 unfolding channel
 returns c = refl

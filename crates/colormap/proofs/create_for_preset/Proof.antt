@@ -1,6 +1,7 @@
+-- `create_for_preset` meets its contract. Assumes nothing.
 use Rattle.lists.proofs.Padding.{length-padded}
 use lib.Seq.{length-take-le}
-use lib.ListN.{take}
+use lib.ListN.{take, length}
 use Rattle.palettes.proofs.InTable.{sizes}
 use Rattle.colormap.proofs.Making.{refused, numbered, by-number}
 use Rattle.colormap.specs.Made.{rampOfList}
@@ -9,30 +10,21 @@ use Rattle.refusal.specs.declared.Answer.the-variants.{Done}
 use Rattle.palettes.specs.Palettes.{palette}
 use Rattle.palettes.specs.declared.Palette.{Palette}
 use native.Mathlib.Omega.{arith}
-use Prim.Native.Nat.{ℕ, _+_, _*_, _-_, _/_, _%_, _^_, _<_, _≤_}
-use mathlib.Core.Path.{_≡_, sym, subst, refl, ap, _∙_}
-use lib.ListN.{length, getD}
+use Prim.Native.Nat.{_≤_}
+use mathlib.Core.Path.{_≡_, sym, ap, _∙_}
 use borrow.Author.Needs.{needs}
 use Rattle.colormap.proofs.create_for_preset.Statement.{statement}
 use Rattle.colormap.proofs.create_for_preset.Tie as tie
-use Rattle.colormap.proofs.create_for_preset.Reads as reads
-use Rattle.colormap.proofs.create_for_preset.Lts as lts
-use Rattle.colormap.proofs.ProcessedColorMap.default.Reads as default-reads
-use Rattle.colormap.proofs.create.Reads as create-reads
 
--- src/lib.rt:185:9
 palette-of-requires : tie.Need-palette-of-requires
 palette-of-requires c κs = search needs
 
--- src/lib.rt:190:19
 enum-told : tie.Need-enum-told
 enum-told c = search needs
 
--- src/lib.rt:190:19
 default-requires : tie.Need-default-requires
 default-requires c κs = search needs
 
--- src/lib.rt:188:9
 returns : tie.Need-returns
 unfolding paletteOf
 returns c = refused (palette (c .before .before .before .before .args .number)) (ap (λ (p : Palette). p .answer) (c .before .before .before .palette-of .ensures)) (c .before .enum-told .given .1) (c .default .ensures)
@@ -40,7 +32,6 @@ returns c = refused (palette (c .before .before .before .before .args .number)) 
 enum-told-2 : tie.Need-enum-told-2
 enum-told-2 c = search needs
 
--- src/lib.rt:195:12
 numbered-done : (c : tie.After-palette-of) → c .palette-of .result .answer ≡ Done → presetRefusal (c .before .args .number) ≡ Done
 unfolding paletteOf
 numbered-done c e = sym (ap (λ (p : Palette). p .answer) (c .palette-of .ensures)) ∙ e
@@ -54,15 +45,12 @@ count-fits c e =
 array-share-prefix-colors : tie.Need-array-share-prefix-colors
 array-share-prefix-colors c = count-fits (c .before .before .before) (c .before .enum-told2 .given .1)
 
--- src/lib.rt:195:12
 slice-aggregate-create : tie.Need-slice-aggregate-create
 slice-aggregate-create c = sym (length-take-le _ _ (count-fits (c .before .before .before .before) (c .before .before .enum-told2 .given .1)))
 
--- src/lib.rt:195:5
 create-requires : tie.Need-create-requires
 create-requires c κs = search needs
 
--- src/lib.rt:182:1
 returns-2 : tie.Need-returns-2
 returns-2 c = c .create .ensures ∙ ap (λ (p : Palette). rampOfList (take (p .count) (p .colors))) (c .before .before .before .before .before .palette-of .ensures) ∙ by-number _ (numbered-done (c .before .before .before .before .before) (c .before .before .before .enum-told2 .given .1))
 

@@ -1,15 +1,14 @@
+-- `list_colors` meets its contract. Assumes nothing.
 use borrow.Author.Needs.{needs}
 use native.Mathlib.Omega.{arith}
-use Prim.Native.Nat.{ℕ, _+_, _*_, _-_, _/_, _%_, _^_, _<_, _≤_}
-use mathlib.Core.Path.{_≡_, sym, subst, refl, ap, _∙_}
+use Prim.Native.Nat.{_-_}
+use mathlib.Core.Path.{_≡_, refl, ap, _∙_}
 use lib.ListN.{length, getD}
 use Rattle.lists.specs.Padded.{padded}
 use Rattle.lists.proofs.Padding.{Storing, storing-start, storing-turn, storing-end}
 use Rattle.lists.proofs.Tabulated.{tabulate-own}
 use Rattle.colormap.proofs.list_colors.Statement.{statement}
 use Rattle.colormap.proofs.list_colors.Tie as tie
-use Rattle.colormap.proofs.list_colors.Reads as reads
-use Rattle.colormap.proofs.list_colors.Lts as lts
 
 abbrev Inv-loop : tie.InvT-loop
 Inv-loop colors n result₀ i₀ result i = (length result ≡ 256) × Storing 0 (λ k. getD colors k 0) 256 (length colors) i result
@@ -17,39 +16,30 @@ Inv-loop colors n result₀ i₀ result i = (length result ≡ 256) × Storing 0
 abbrev μ-loop : tie.MeasureT-loop
 μ-loop colors n result₀ i₀ result i = length colors - i
 
--- src/lib.rt:311:5
 loop-holds : tie.Need-loop-holds Inv-loop μ-loop
 loop-holds c = (search needs, storing-start)
 
--- src/lib.rt:312:21
 mul-result : tie.Need-mul-result Inv-loop μ-loop
 mul-result c = search needs
 
--- src/lib.rt:312:21
 shared-slice-read-result : tie.Need-shared-slice-read-result Inv-loop μ-loop
 shared-slice-read-result c = search needs
 
--- src/lib.rt:312:9
 mul-result-2 : tie.Need-mul-result-2 Inv-loop μ-loop
 mul-result-2 c = search needs
 
--- src/lib.rt:312:9
 array-write-result : tie.Need-array-write-result Inv-loop μ-loop
 array-write-result c = search needs
 
--- src/lib.rt:313:9
 add-i : tie.Need-add-i Inv-loop μ-loop
 add-i c = search needs
 
--- src/lib.rt:311:5
 loop-less : tie.Need-loop-less Inv-loop μ-loop
 loop-less c = search needs
 
--- src/lib.rt:311:5
 loop-again : tie.Need-loop-again Inv-loop μ-loop
 loop-again c = (search needs, storing-turn (c .before .before .loop .inv .1) (omega arith) (search needs) refl)
 
--- src/lib.rt:304:1
 returns : tie.Need-returns Inv-loop μ-loop
 returns c = storing-end (c .before .loop .inv .1) (omega arith) ∙ ap (padded 0 256) (tabulate-own 0 (c .before .before .args .colors .now))
 

@@ -1,40 +1,29 @@
-use lib.ListN.{List·getD-eq-default}
+-- `palette_color` meets its contract. Assumes nothing.
+use lib.ListN.{List·getD-eq-default, length, getD}
 use Rattle.palettes.proofs.InTable.{known, in-table, offset-room}
-use Rattle.palettes.specs.Palettes.{palette, table, offset}
+use Rattle.palettes.specs.Palettes.{palette, table}
 use native.Mathlib.Omega.{arith}
-use Prim.Native.Nat.{ℕ, _+_, _*_, _-_, _/_, _%_, _^_, _<_, _≤_}
-use mathlib.Core.Path.{_≡_, sym, subst, refl, ap, _∙_}
-use lib.ListN.{length, getD}
+use Prim.Native.Nat.{_+_, _<_}
+use mathlib.Core.Path.{sym, ap, _∙_}
 use borrow.Author.Needs.{needs}
 use Rattle.palettes.proofs.palette_color.Statement.{statement}
 use Rattle.palettes.proofs.palette_color.Tie as tie
-use Rattle.palettes.proofs.palette_color.Reads as reads
-use Rattle.palettes.proofs.palette_color.Lts as lts
-use Rattle.palettes.proofs.offset_of.Reads as offset-of-reads
-use Rattle.palettes.proofs.palette_length.Reads as palette-length-reads
-use Rattle.palettes.proofs.table_color.Reads as table-color-reads
 
--- src/lib.rt:300:17
 palette-length-requires : tie.Need-palette-length-requires
 palette-length-requires c κs = search needs
 
--- src/lib.rt:301:9
 returns : tie.Need-returns
 returns c = sym (List·getD-eq-default (palette (c .before .before .args .number)) 0 (omega (arith, c .before .palette-length .ensures)))
 
--- src/lib.rt:303:17
 offset-of-requires : tie.Need-offset-of-requires
 offset-of-requires c κs = known _ (c .before .before .args .index) (omega (arith, c .before .palette-length .ensures))
 
--- src/lib.rt:303:17
 add-table-color : tie.Need-add-table-color
 add-table-color c = omega (arith, c .offset-of .ensures, c .before .before .palette-length .ensures, offset-room (c .before .before .before .args .number) (known _ (c .before .before .before .args .index) (omega (arith, c .before .before .palette-length .ensures))))
 
--- src/lib.rt:303:5
 table-color-requires : tie.Need-table-color-requires
 table-color-requires c κs = omega (arith, c .offset-of .ensures, c .before .before .palette-length .ensures, offset-room (c .before .before .before .args .number) (known _ (c .before .before .before .args .index) (omega (arith, c .before .before .palette-length .ensures))))
 
--- src/lib.rt:297:1
 returns-2 : tie.Need-returns-2
 returns-2 c = let l : c .before .before .before .before .args .index < length (palette (c .before .before .before .before .args .number)) = omega (arith, c .before .before .before .palette-length .ensures) in c .table-color .ensures ∙ ap (λ k. getD table (k + c .before .before .before .before .args .index) 0) (c .before .offset-of .ensures) ∙ in-table _ (known _ _ l) _ l
 

@@ -1,0 +1,77 @@
+-- `gather` meets its contract. Assumes nothing.
+use borrow.Author.Needs.{needs}
+use native.Mathlib.Omega.{arith}
+use Prim.Native.Nat.{_-_}
+use mathlib.Core.Path.{ap, _∙_}
+use lib.ListN.{getD}
+use Rattle.lists.proofs.Filling.{Filling, filling-start, filling-turn, filling-end}
+use lib.Ieee.{nan}
+use Rattle.floats.specs.RampIndex.{laneIndex}
+use Rattle.lookup.specs.Entries.{kept}
+use Rattle.lookup.proofs.gather.Statement.{statement}
+use Rattle.lookup.proofs.gather.Tie as tie
+
+abbrev Inv-loop : tie.InvT-loop
+Inv-loop lanes cmap fraction result₀ i₀ result i = Filling 0 (λ k. getD cmap (laneIndex (kept (getD fraction k nan))) 0) 16 lanes i result
+
+abbrev μ-loop : tie.MeasureT-loop
+μ-loop lanes cmap fraction result₀ i₀ result i = lanes - i
+
+loop-holds : tie.Need-loop-holds Inv-loop μ-loop
+loop-holds c = filling-start (search needs)
+
+mul-unit : tie.Need-mul-unit Inv-loop μ-loop
+mul-unit c = search needs
+
+array-read-unit : tie.Need-array-read-unit Inv-loop μ-loop
+array-read-unit c = search needs
+
+unit-requires : tie.Need-unit-requires Inv-loop μ-loop
+unit-requires c κs = search needs
+
+lane-index-requires : tie.Need-lane-index-requires Inv-loop μ-loop
+lane-index-requires c κs = c .unit .ensures .1
+
+mul-result : tie.Need-mul-result Inv-loop μ-loop
+mul-result c = search needs
+
+element-copy-out-result : tie.Need-element-copy-out-result Inv-loop μ-loop
+element-copy-out-result c = search needs
+
+mul-result-2 : tie.Need-mul-result-2 Inv-loop μ-loop
+mul-result-2 c = search needs
+
+array-write-result : tie.Need-array-write-result Inv-loop μ-loop
+array-write-result c = search needs
+
+add-i : tie.Need-add-i Inv-loop μ-loop
+add-i c = search needs
+
+loop-less : tie.Need-loop-less Inv-loop μ-loop
+loop-less c = search needs
+
+loop-again : tie.Need-loop-again Inv-loop μ-loop
+loop-again c = filling-turn (c .before .before .before .before .loop .inv) (omega arith) (omega arith) (ap (λ k. getD (c .before .before .before .before .before .args .cmap .now) k 0) (c .before .lane-index .ensures .0 ∙ ap laneIndex (c .before .before .unit .ensures .0)))
+
+returns : tie.Need-returns Inv-loop μ-loop
+returns c = filling-end (c .before .loop .inv) (omega arith)
+
+pub gather-spec : {M : Type 1} → statement M
+gather-spec =
+    tie.close
+    (tie.spec
+    Inv-loop
+    μ-loop
+    loop-holds
+    mul-unit
+    array-read-unit
+    unit-requires
+    lane-index-requires
+    mul-result
+    element-copy-out-result
+    mul-result-2
+    array-write-result
+    add-i
+    loop-less
+    loop-again
+    returns)

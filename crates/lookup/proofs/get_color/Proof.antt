@@ -1,0 +1,54 @@
+-- `get_color` meets its contract. Assumes nothing.
+use mathlib.Core.Path.{ap₂, sym, ap, _∙_}
+use mathlib.Core.Bool.{cond}
+use Rattle.floats.specs.RampIndex.{plainIndex}
+use native.Mathlib.Omega.{arith}
+use Prim.Native.Nat.{_<_}
+use lib.ListN.{getD}
+use Rattle.lookup.proofs.Lookups.{holds, plain-chosen}
+use Rattle.floats.proofs.RampBounds.{times-low, times-high, plain-is, plain-le}
+use lib.Ieee.{ofBits}
+use borrow.Author.Needs.{needs}
+use Rattle.lookup.proofs.get_color.Statement.{statement}
+use Rattle.lookup.proofs.get_color.Tie as tie
+
+unit-requires : tie.Need-unit-requires
+unit-requires c κs = search needs
+
+nearest-requires : tie.Need-nearest-requires
+unfolding ofBits
+nearest-requires c κs = let h = holds (c .unit .ensures .1) in (times-low _ h, times-high _ h)
+
+in-unit-requires : tie.Need-in-unit-requires
+in-unit-requires c κs = search needs
+
+index-lt : (c : tie.After-nearest) → c .nearest .result < 256
+unfolding ofBits
+index-lt c =
+    let h = holds (c .before .unit .ensures .1) in
+    omega (arith, c .nearest .ensures ∙ sym (plain-is (c .before .unit .result)), plain-le (c .before .unit .result) h)
+
+mul-pick : tie.Need-mul-pick
+mul-pick c = omega (arith, index-lt (c .before))
+
+element-copy-out-pick : tie.Need-element-copy-out-pick
+element-copy-out-pick c = index-lt (c .before)
+
+pick-requires : tie.Need-pick-requires
+pick-requires c κs = search needs
+
+returns : tie.Need-returns
+unfolding ofBits
+returns c = let f = c .before .before .before .before .before .args .fraction in let e = c .before .before .before .nearest .ensures ∙ sym (plain-is (c .before .before .before .before .unit .result)) ∙ ap plainIndex (c .before .before .before .before .unit .ensures .0) in let g = c .before .before .in-unit .ensures in c .pick .ensures ∙ ap₂ (λ b k. cond b (getD (c .before .before .before .before .before .args .cmap .now) k 0) 0) g e ∙ plain-chosen f (c .before .before .before .before .before .args .cmap .now)
+
+pub get-color-spec : {M : Type 1} → statement M
+get-color-spec =
+    tie.close
+    (tie.spec
+    unit-requires
+    nearest-requires
+    in-unit-requires
+    mul-pick
+    element-copy-out-pick
+    pick-requires
+    returns)
