@@ -13,3 +13,8 @@ refuseIf false why rest = rest
 abbrev pub ifDone : {A : Type 0} → Answer → A → A → A
 ifDone Done made otherwise = made
 ifDone (Refused why) made otherwise = otherwise
+
+-- the first refusal of two checks
+abbrev pub firstOf : Answer → Answer → Answer
+firstOf Done rest = rest
+firstOf (Refused why) rest = Refused why

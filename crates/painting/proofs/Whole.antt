@@ -1,0 +1,58 @@
+-- From what the parts of a painter promise to the two whole contracts. Assumes nothing.
+use mathlib.Core.Path.{_≡_, refl, sym, ap, _∙_}
+use mathlib.Core.Bool.{true, false, cond}
+use mathlib.Core.List.{List, _++_}
+use Prim.Native.Nat.{ℕ, _+_}
+use lib.Ieee.{Float}
+use lib.ListN.{length, take, drop}
+use lib.Seq.{paste}
+use Rattle.refusal.specs.declared.Refusal.{Refusal}
+use Rattle.refusal.specs.declared.Answer.{Answer}
+use Rattle.refusal.specs.declared.Answer.the-variants.{Done, Refused}
+use Rattle.refusal.proofs.Outcomes.{when-done, when-refused}
+use Rattle.painting.specs.Painted.{plainPainted, lanePainted, scratchAfter, chunkOver}
+use Rattle.painting.specs.Contracts.{plainRefusal, laneRefusal, Painter, PlainPainting, LanePainting}
+
+-- ---- one chunk: loaded, coloured and stored by the lane count's literal L
+pub chunk-is : (chunk : List Float → List ℕ) (xs : List Float) (out : List ℕ) (i l L : ℕ) (d : List ℕ) (v : List Float) {out' : List ℕ} → l ≡ L
+    → out' ≡ paste out i d L → take L d ≡ chunk (take L v) → take L v ≡ take L (drop i xs) → out' ≡ chunkOver chunk xs out i l
+unfolding chunkOver
+chunk-is chunk xs out i l L d v e p q r =
+    p
+    ∙ ap (λ (w : List ℕ). take i out ++ w ++ drop (i + L) out) (q ∙ ap chunk r)
+    ∙ ap (λ (n : ℕ). take i out ++ chunk (take n (drop i xs)) ++ drop (i + n) out) (sym e)
+
+-- ---- the raster has n samples, and xs are these as f32. Refused, with everything as it was, and done
+module _ (p : Painter) (xs : List Float) (out : List ℕ) {n : ℕ} (m : n ≡ length xs) {a : Answer} where
+  pub plain-refused : a ≡ plainRefusal (p .stored) n (length out) → {why : Refusal} → a ≡ Refused why → PlainPainting p xs out a out
+  plain-refused d e = record { answered = d ∙ ap (λ k. plainRefusal (p .stored) k (length out)) m; output = sym (when-refused (plainPainted (p .plain) xs) out e) }
+
+  pub plain-done : a ≡ plainRefusal (p .stored) n (length out) → a ≡ Done → {out' : List ℕ} → out' ≡ plainPainted (p .plain) xs → PlainPainting p xs out a out'
+  plain-done d e w = record { answered = d ∙ ap (λ k. plainRefusal (p .stored) k (length out)) m; output = w ∙ sym (when-done (plainPainted (p .plain) xs) out e) }
+
+  module _ (L : ℕ) (scratch : List ℕ) (d : a ≡ laneRefusal (p .stored) L (length scratch) n (length out)) where
+    abbrev painted : List ℕ
+    painted = cond (p .simd) (lanePainted L (p .chunk) (p .plain) xs) (plainPainted (p .plain) xs)
+
+    asked : a ≡ laneRefusal (p .stored) L (length scratch) (length xs) (length out)
+    asked = d ∙ ap (λ k. laneRefusal (p .stored) L (length scratch) k (length out)) m
+
+    pub lane-refused : {why : Refusal} → a ≡ Refused why → LanePainting p L xs out scratch a out scratch
+    lane-refused e = record { answered = asked; output = sym (when-refused painted out e); kept = sym (when-refused (cond (p .simd) (scratchAfter L out scratch) scratch) scratch e) }
+
+    pub lane-done : a ≡ Done → p .simd ≡ true → {out' scratch' : List ℕ} → out' ≡ lanePainted L (p .chunk) (p .plain) xs → scratch' ≡ scratchAfter L out' scratch → LanePainting p L xs out scratch a out' scratch'
+    lane-done e s {out'} w k =
+        record {
+          answered = asked;
+          output = w ∙ sym (when-done painted out e ∙ ap (λ b. cond b (lanePainted L (p .chunk) (p .plain) xs) (plainPainted (p .plain) xs)) s);
+          kept = k ∙ sym (when-done (cond (p .simd) (scratchAfter L out' scratch) scratch) scratch e ∙ ap (λ b. cond b (scratchAfter L out' scratch) scratch) s);
+        }
+
+    -- a legend whose lanes have no rule
+    pub lane-plain : a ≡ Done → p .simd ≡ false → {out' : List ℕ} → out' ≡ plainPainted (p .plain) xs → LanePainting p L xs out scratch a out' scratch
+    lane-plain e s {out'} w =
+        record {
+          answered = asked;
+          output = w ∙ sym (when-done painted out e ∙ ap (λ b. cond b (lanePainted L (p .chunk) (p .plain) xs) (plainPainted (p .plain) xs)) s);
+          kept = sym (when-done (cond (p .simd) (scratchAfter L out' scratch) scratch) scratch e ∙ ap (λ b. cond b (scratchAfter L out' scratch) scratch) s);
+        }

@@ -1,0 +1,64 @@
+-- `load` meets its contract. Assumes nothing.
+use Rattle.lists.proofs.Filling.{Filling, filling-start, filling-turn, filling-end}
+use Rattle.painting.proofs.Lists.{lanes-part}
+use borrow.Author.Needs.{needs}
+use native.Mathlib.Omega.{arith}
+use Prim.Native.Nat.{_+_, _-_}
+use mathlib.Core.Path.{refl}
+use lib.ListN.{getD}
+use lib.Ieee.{nan}
+use Rattle.painting.proofs.load.Statement.{statement}
+use Rattle.painting.proofs.load.Tie as tie
+
+abbrev Inv-loop : tie.InvT-loop
+Inv-loop l src base v₀ i₀ v i = Filling nan (λ k. getD src (base + k) nan) 16 l i v
+
+abbrev μ-loop : tie.MeasureT-loop
+μ-loop l src base v₀ i₀ v i = l - i
+
+loop-holds : tie.Need-loop-holds Inv-loop μ-loop
+loop-holds c = filling-start (search needs)
+
+add-v : tie.Need-add-v Inv-loop μ-loop
+add-v c = search needs
+
+mul-v : tie.Need-mul-v Inv-loop μ-loop
+mul-v c = search needs
+
+shared-slice-read-v : tie.Need-shared-slice-read-v Inv-loop μ-loop
+shared-slice-read-v c = search needs
+
+mul-v-2 : tie.Need-mul-v-2 Inv-loop μ-loop
+mul-v-2 c = search needs
+
+array-write-v : tie.Need-array-write-v Inv-loop μ-loop
+array-write-v c = search needs
+
+add-i : tie.Need-add-i Inv-loop μ-loop
+add-i c = search needs
+
+loop-less : tie.Need-loop-less Inv-loop μ-loop
+loop-less c = search needs
+
+loop-again : tie.Need-loop-again Inv-loop μ-loop
+loop-again c = filling-turn (c .before .before .loop .inv) (omega arith) (omega arith) refl
+
+returns : tie.Need-returns Inv-loop μ-loop
+returns c = lanes-part nan (c .before .before .args .l) (c .before .loop .v) (c .before .before .args .src .now) (c .before .before .args .base) (search needs) (search needs) (filling-end (c .before .loop .inv) (omega arith))
+
+pub load-spec : {M : Type 1} → statement M
+load-spec =
+    tie.close
+    (tie.spec
+    Inv-loop
+    μ-loop
+    loop-holds
+    add-v
+    mul-v
+    shared-slice-read-v
+    mul-v-2
+    array-write-v
+    add-i
+    loop-less
+    loop-again
+    returns)
