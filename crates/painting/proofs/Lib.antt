@@ -5,3 +5,4 @@ pub mod Refusals
 pub mod Whole
 pub mod Splitting
 pub mod Blocks
+pub mod Chunks

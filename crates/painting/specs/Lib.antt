@@ -1,2 +1,3 @@
 pub mod Painted
 pub mod Contracts
+pub mod Chunking
