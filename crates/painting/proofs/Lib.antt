@@ -6,3 +6,4 @@ pub mod Whole
 pub mod Splitting
 pub mod Blocks
 pub mod Chunks
+pub mod Masking

@@ -1,0 +1,34 @@
+-- A colour that is looked up first and replaced out of range is the rule's. Assumes nothing.
+use mathlib.Core.Path.{_≡_, refl, ap, _∙_}
+use mathlib.Core.Bool.{Bool, true, false, cond}
+use mathlib.Core.List.{List}
+use Prim.Native.Nat.{ℕ}
+use lib.Ieee.{Float, binary32, add, sub, lt}
+use Rattle.interpolate.specs.Fraction.{fraction, plainFraction}
+use Rattle.lookup.specs.declared.Entry.{Entry}
+use Rattle.lookup.specs.Entries.{plainEntry, laneEntry, entryColor}
+use Rattle.colormapper.specs.declared.UnmappableColors.{UnmappableColors}
+use Rattle.colormapper.specs.Tolerance.{E}
+use Rattle.linear.specs.Rule.{low, high, looked-up, byRange, ranged, plainRule, laneRule, ruleColor, plainColor, laneColor}
+
+module _ (cmap : List ℕ) (start end : Float) (u : UnmappableColors) (v : Float) where
+  chosen : (entry : Entry) → byRange start end v (u .low) (u .high) (entryColor cmap entry) ≡ ruleColor cmap u (ranged start end v entry)
+  chosen entry = go (lt v (sub binary32 start E)) (lt (add binary32 end E) v)
+    where
+      go : (b a : Bool) → cond b (u .low) (cond a (u .high) (entryColor cmap entry)) ≡ ruleColor cmap u (cond b low (cond a high (looked-up entry)))
+      go true a = refl
+      go false true = refl
+      go false false = refl
+
+  -- in phases: the fraction f, the colour that is looked up for it, and the range
+  phases : (rule : Float → Entry) {f g : Float} {color r : ℕ} → f ≡ g → color ≡ entryColor cmap (rule f) → r ≡ byRange start end v (u .low) (u .high) color → r ≡ ruleColor cmap u (ranged start end v (rule g))
+  phases rule {f} {g} p q s = s ∙ ap (byRange start end v (u .low) (u .high)) (q ∙ ap (λ x. entryColor cmap (rule x)) p) ∙ chosen (rule g)
+
+  module _ {f : Float} {color r : ℕ} where
+    pub plain-phases : f ≡ plainFraction start end v → color ≡ entryColor cmap (plainEntry f) → r ≡ byRange start end v (u .low) (u .high) color → r ≡ plainColor cmap start end u v
+    unfolding plainColor plainRule
+    plain-phases = phases plainEntry
+
+    pub lane-phases : f ≡ fraction start end v → color ≡ entryColor cmap (laneEntry f) → r ≡ byRange start end v (u .low) (u .high) color → r ≡ laneColor cmap start end u v
+    unfolding laneColor laneRule
+    lane-phases = phases laneEntry

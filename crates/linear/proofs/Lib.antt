@@ -1,0 +1,5 @@
+pub mod Building
+pub mod Choosing
+pub mod Edges
+pub mod Inside
+pub mod LaneLaw

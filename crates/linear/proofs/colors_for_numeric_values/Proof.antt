@@ -1,0 +1,21 @@
+-- `colors_for_numeric_values` meets its contract, phase by phase in each lane. Assumes nothing.
+use borrow.Author.Needs.{needs}
+use Rattle.linear.proofs.Choosing.{plain-phases}
+use Rattle.linear.proofs.colors_for_numeric_values.Statement.{statement}
+use Rattle.linear.proofs.colors_for_numeric_values.Tie as tie
+
+fractions-requires : tie.Need-fractions-requires
+fractions-requires c κs = search needs
+
+get-colors-requires : tie.Need-get-colors-requires
+get-colors-requires c κs = search needs
+
+in-ranges-requires : tie.Need-in-ranges-requires
+in-ranges-requires c κs = search needs
+
+returns : tie.Need-returns
+returns c = λ k h. plain-phases _ _ _ _ _ (c .before .before .fractions .ensures k h) (c .before .get-colors .ensures k h) (c .in-ranges .ensures k h)
+
+pub colors-for-numeric-values-spec : {M : Type 1} → statement M
+colors-for-numeric-values-spec =
+    tie.close (tie.spec fractions-requires get-colors-requires in-ranges-requires returns)

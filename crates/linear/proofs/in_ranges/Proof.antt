@@ -1,0 +1,71 @@
+-- `in_ranges` meets its contract: the loop fills lane by lane. Assumes nothing.
+use Prim.Native.Nat.{_-_}
+use native.Mathlib.Omega.{arith}
+use borrow.Author.Needs.{needs}
+use lib.ListN.{getD}
+use lib.Ieee.{nan}
+use Rattle.lists.proofs.Filling.{Filling, filling-start, filling-turn, filling-end}
+use Rattle.linear.specs.Rule.{byRange}
+use Rattle.linear.proofs.in_ranges.Statement.{statement}
+use Rattle.linear.proofs.in_ranges.Tie as tie
+
+abbrev Inv-loop : tie.InvT-loop
+Inv-loop lanes start end u value color result₀ i₀ result i = Filling 0 (λ k. byRange start end (getD value k nan) (u .low) (u .high) (getD color k 0)) 16 lanes i result
+
+abbrev μ-loop : tie.MeasureT-loop
+μ-loop lanes start end u value color result₀ i₀ result i = lanes - i
+
+loop-holds : tie.Need-loop-holds Inv-loop μ-loop
+loop-holds c = filling-start (search needs)
+
+mul-in-range : tie.Need-mul-in-range Inv-loop μ-loop
+mul-in-range c = search needs
+
+array-read-in-range : tie.Need-array-read-in-range Inv-loop μ-loop
+array-read-in-range c = search needs
+
+mul-in-range-2 : tie.Need-mul-in-range-2 Inv-loop μ-loop
+mul-in-range-2 c = search needs
+
+array-read-in-range-2 : tie.Need-array-read-in-range-2 Inv-loop μ-loop
+array-read-in-range-2 c = search needs
+
+in-range-requires : tie.Need-in-range-requires Inv-loop μ-loop
+in-range-requires c κs = search needs
+
+mul-result : tie.Need-mul-result Inv-loop μ-loop
+mul-result c = search needs
+
+array-write-result : tie.Need-array-write-result Inv-loop μ-loop
+array-write-result c = search needs
+
+add-i : tie.Need-add-i Inv-loop μ-loop
+add-i c = search needs
+
+loop-less : tie.Need-loop-less Inv-loop μ-loop
+loop-less c = search needs
+
+loop-again : tie.Need-loop-again Inv-loop μ-loop
+loop-again c = filling-turn (c .before .before .loop .inv) (omega arith) (omega arith) (c .in-range .ensures)
+
+returns : tie.Need-returns Inv-loop μ-loop
+returns c = filling-end (c .before .loop .inv) (omega arith)
+
+pub in-ranges-spec : {M : Type 1} → statement M
+in-ranges-spec =
+    tie.close
+    (tie.spec
+    Inv-loop
+    μ-loop
+    loop-holds
+    mul-in-range
+    array-read-in-range
+    mul-in-range-2
+    array-read-in-range-2
+    in-range-requires
+    mul-result
+    array-write-result
+    add-i
+    loop-less
+    loop-again
+    returns)

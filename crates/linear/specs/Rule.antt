@@ -1,0 +1,46 @@
+-- The linear rule at one sample that is mappable, plainly and in a lane (docs/RULES.md, "Linear"). Definitions only.
+use Prim.Native.Nat.{ℕ}
+use mathlib.Core.Bool.{cond}
+use mathlib.Core.List.{List, map}
+use lib.Ieee.{Float, binary32, add, sub, lt}
+use Rattle.interpolate.specs.Fraction.{fraction, plainFraction}
+use Rattle.lookup.specs.declared.Entry.{Entry}
+use Rattle.lookup.specs.Entries.{plainEntry, laneEntry, entryColor}
+use Rattle.colormapper.specs.declared.UnmappableColors.{UnmappableColors}
+use Rattle.colormapper.specs.Tolerance.{E}
+
+-- which case applies to a sample
+pub data Rule : Type 0 where
+  low : Rule
+  high : Rule
+  looked-up : Entry → Rule
+
+-- below start - E the first, else above end + E the second, else the third
+abbrev pub byRange : {A : Type 0} → (start end v : Float) → A → A → A → A
+byRange start end v x y z = cond (lt v (sub binary32 start E)) x (cond (lt (add binary32 end E) v) y z)
+
+abbrev pub ranged : (start end v : Float) → Entry → Rule
+ranged start end v entry = byRange start end v low high (looked-up entry)
+
+unfoldable pub plainRule : (start end v : Float) → Rule
+plainRule start end v = ranged start end v (plainEntry (plainFraction start end v))
+
+-- in lanes the fraction is not asked whether the start is above the end, and the entry is the lanes'
+unfoldable pub laneRule : (start end v : Float) → Rule
+laneRule start end v = ranged start end v (laneEntry (fraction start end v))
+
+-- the colour of a case
+abbrev pub ruleColor : (cmap : List ℕ) → UnmappableColors → Rule → ℕ
+ruleColor cmap u low = u .low
+ruleColor cmap u high = u .high
+ruleColor cmap u (looked-up entry) = entryColor cmap entry
+
+unfoldable pub plainColor : (cmap : List ℕ) (start end : Float) → UnmappableColors → Float → ℕ
+plainColor cmap start end u v = ruleColor cmap u (plainRule start end v)
+
+unfoldable pub laneColor : (cmap : List ℕ) (start end : Float) → UnmappableColors → Float → ℕ
+laneColor cmap start end u v = ruleColor cmap u (laneRule start end v)
+
+-- the lane rule of a chunk: each lane by itself
+abbrev pub laneColors : (cmap : List ℕ) (start end : Float) → UnmappableColors → List Float → List ℕ
+laneColors cmap start end u = map (laneColor cmap start end u)

@@ -1,0 +1,194 @@
+// The linear kind of legend: a range of values over a ramp (docs/RULES.md, "Linear").
+use colormap::ProcessedColorMap;
+use colormapper::MappingConfig;
+use colormapper::UnmappableColors;
+use refusal::Answer;
+use refusal::Refusal;
+ghost use mathlib.Core.Path.{_≡_};
+ghost use mathlib.Core.Bool.{cond};
+ghost use Prim.Native.Nat.{_≤_};
+ghost use lib.Ieee.{nan};
+ghost use lib.ListN.{getD};
+ghost use Rattle.lists.specs.Lanes.{Lanes};
+ghost use Rattle.interpolate.specs.Fraction.{plainFraction};
+ghost use Rattle.linear.specs.Rule.{byRange, plainColor, laneColor};
+ghost use Rattle.linear.specs.Made.{emptyLinear, rangeRefusal, linearOfRamp, linearOfList, linearColors};
+
+// A range of values and the ramp that it is coloured by.
+pub struct Linear {
+    pub start: f32,
+    pub end: f32,
+    pub cmap: [u32; 256],
+}
+
+// A linear record that was asked for: the empty one beside a refusal.
+pub struct MadeLinear {
+    pub answer: Answer,
+    pub linear: Linear,
+}
+
+impl Linear {
+    pub const EDGE_TOLERANCE: f32 = 1e-4;
+
+    // No range, and a ramp that is TRANSPARENT throughout.
+    pub fn default() -> Linear
+        ensures { λ r. ⌜ r ≡ emptyLinear ⌝ }
+    {
+        Linear {
+            start: 0.0,
+            end: 0.0,
+            cmap: [0u32; 256],
+        }
+    }
+
+    // A range over a ramp.
+    pub fn new(start: f32, end: f32, color_map: ProcessedColorMap) -> MadeLinear
+        ensures { λ r. ⌜ r ≡ linearOfRamp start end («color_map» .cmap) ⌝ }
+    {
+        let answer = range_refusal(start, end);
+        if let Answer::Refused(_) = answer {
+            return MadeLinear {
+                answer,
+                linear: Linear::default(),
+            };
+        }
+        let cmap = color_map.cmap;
+        MadeLinear {
+            answer,
+            linear: Linear { start, end, cmap },
+        }
+    }
+
+    // A range over a list of colours. The ramp is made before the range is tested.
+    pub fn with_color_list(start: f32, end: f32, colors: &[u32]) -> MadeLinear
+        ensures { λ r. ⌜ r ≡ linearOfList start end (now (colors .entry)) ⌝ }
+    {
+        let made = colormap::create(colors);
+        let answer = made.answer;
+        if let Answer::Refused(_) = answer {
+            return MadeLinear {
+                answer,
+                linear: Linear::default(),
+            };
+        }
+        let ramp = made.ramp;
+        Linear::new(start, end, ramp)
+    }
+}
+
+fn range_refusal(start: f32, end: f32) -> Answer
+    ensures { λ r. ⌜ r ≡ rangeRefusal start end ⌝ }
+{
+    if start > end {
+        return Answer::Refused(Refusal::StartAboveEnd);
+    }
+    Answer::Done
+}
+
+// The settings' colours, the ramp's ends where low or high is absent.
+pub fn unmappable_colors(cmap: &[u32; 256], config: MappingConfig) -> UnmappableColors
+    ensures { λ r. ⌜ r ≡ linearColors (now (cmap .entry)) config ⌝ }
+{
+    let low = lookup::get_color(cmap, 0.0);
+    let high = lookup::get_color(cmap, 1.0);
+    colormapper::compute_unmappable_colors(config, low, high)
+}
+
+// ---- the plain rule
+
+// The colour of a mappable sample.
+pub fn color_for_numeric_value(
+    cmap: &[u32; 256],
+    start: f32,
+    end: f32,
+    u: UnmappableColors,
+    value: f32,
+) -> u32
+    ensures { λ r. ⌜ r ≡ plainColor (now (cmap .entry)) start end u value ⌝ }
+{
+    let fraction = interpolate::linear_map_to_float(value, start, end);
+    let color = lookup::get_color(cmap, fraction);
+    in_range(start, end, u, value, color)
+}
+
+// The same for sixteen samples, in phases: each is a loop that is vectorised.
+pub fn colors_for_numeric_values(
+    cmap: &[u32; 256],
+    start: f32,
+    end: f32,
+    u: UnmappableColors,
+    value: [f32; 16],
+) -> [u32; 16]
+    ensures { λ r. ⌜ Lanes 0 16 r (λ k. plainColor (now (cmap .entry)) start end u (getD value k nan)) ⌝ }
+{
+    let fraction = fractions(start, end, value);
+    let color = lookup::get_colors(cmap, fraction);
+    in_ranges(16, start, end, u, value, color)
+}
+
+// The plain fractions of sixteen samples: the lanes', once the start is known not to be above the end.
+fn fractions(start: f32, end: f32, value: [f32; 16]) -> [f32; 16]
+    ensures { λ r. ⌜ Lanes nan 16 r (λ k. plainFraction start end (getD value k nan)) ⌝ }
+{
+    if end < start {
+        return [0.0f32; 16];
+    }
+    interpolate::linear_map_to_float_simd(16, value, start, end)
+}
+
+// ---- the lane rule
+
+// The colours of a chunk. The lane count is a literal of the caller's.
+pub fn color_for_numeric_value_simd(
+    lanes: usize,
+    cmap: &[u32; 256],
+    start: f32,
+    end: f32,
+    u: UnmappableColors,
+    value: [f32; 16],
+) -> [u32; 16]
+    requires { ⌜ lanes ≤ 16 ⌝ }
+    ensures { λ r. ⌜ Lanes 0 lanes r (λ k. laneColor (now (cmap .entry)) start end u (getD value k nan)) ⌝ }
+{
+    let fraction = interpolate::linear_map_to_float_simd(lanes, value, start, end);
+    let color = lookup::get_color_simd(lanes, cmap, fraction);
+    in_ranges(lanes, start, end, u, value, color)
+}
+
+// ---- both
+
+// Low and high out of range, else the colours that were looked up.
+fn in_ranges(
+    lanes: usize,
+    start: f32,
+    end: f32,
+    u: UnmappableColors,
+    value: [f32; 16],
+    color: [u32; 16],
+) -> [u32; 16]
+    requires { ⌜ lanes ≤ 16 ⌝ }
+    ensures { λ r. ⌜ Lanes 0 lanes r (λ k. byRange start end (getD value k nan) (u .low) (u .high) (getD color k 0)) ⌝ }
+{
+    let mut result = [0u32; 16];
+    let mut i: usize = 0;
+    while i < lanes {
+        result[i] = in_range(start, end, u, value[i], color[i]);
+        i += 1;
+    }
+    result
+}
+
+fn in_range(start: f32, end: f32, u: UnmappableColors, value: f32, color: u32) -> u32
+    ensures { λ r. ⌜ r ≡ byRange start end value (u .low) (u .high) color ⌝ }
+{
+    let below = value < start - Linear::EDGE_TOLERANCE;
+    let above = value > end + Linear::EDGE_TOLERANCE;
+    pick(below, u.low, pick(above, u.high, color))
+}
+
+// One of two words by a flag: a select, and no branch in the loops.
+fn pick(flag: bool, x: u32, y: u32) -> u32
+    ensures { λ r. ⌜ r ≡ cond flag x y ⌝ }
+{
+    if flag { x } else { y }
+}
