@@ -25,7 +25,7 @@ ranged start end v entry = byRange start end v low high (looked-up entry)
 unfoldable pub plainRule : (start end v : Float) → Rule
 plainRule start end v = ranged start end v (plainEntry (plainFraction start end v))
 
--- in lanes the fraction is not asked whether the start is above the end, and the entry is the lanes'
+-- in lanes it is not tested whether the start is above the end, and the entry is the lanes'
 unfoldable pub laneRule : (start end v : Float) → Rule
 laneRule start end v = ranged start end v (laneEntry (fraction start end v))
 

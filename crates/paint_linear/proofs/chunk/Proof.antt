@@ -1,83 +1,53 @@
+-- `chunk` meets its contract. Assumes nothing.
 use native.Mathlib.Omega.{arith}
-use Prim.Native.Nat.{ℕ, _+_, _*_, _-_, _/_, _%_, _^_, _<_, _≤_}
-use mathlib.Core.Path.{_≡_, sym, subst, refl, ap, _∙_}
-use lib.ListN.{length, getD}
 use Rattle.painting.proofs.Whole.{chunk-is}
-use Rattle.painting.proofs.Refusals.{lane-sixteen, lane-sizes}
-use Rattle.painting.proofs.Steps.{Plainly, plain-turn, plain-end, InChunks, chunks-start, chunk-turn, chunks-end}
-use Rattle.painting.proofs.Splitting.{plain-in-blocks}
-use Rattle.painting.proofs.Masking.{length-masked}
-use mathlib.Core.List.{map, _++_}
-use lib.ListN.{take, drop, length-map}
-use lib.Ieee.{nan}
+use Rattle.painting.proofs.Refusals.{lane-sixteen}
 use borrow.Author.Needs.{needs}
 use Rattle.paint_linear.proofs.chunk.Statement.{statement}
 use Rattle.paint_linear.proofs.chunk.Tie as tie
-use Rattle.paint_linear.proofs.chunk.Reads as reads
-use Rattle.paint_linear.proofs.chunk.Lts as lts
-use Rattle.paint_linear.proofs.words16.Reads as words16-reads
-use Rattle.paint_linear.proofs.words4.Reads as words4-reads
-use Rattle.paint_linear.proofs.words8.Reads as words8-reads
-use Rattle.painting.proofs.load.Reads as load-reads
-use Rattle.painting.proofs.store.Reads as store-reads
 
--- src/lib.rt:73:13
 load-requires : tie.Need-load-requires
 load-requires c κs = search needs
 
--- src/lib.rt:74:28
 words4-requires : tie.Need-words4-requires
 words4-requires c κs = search needs
 
--- src/lib.rt:74:9
 store-requires : tie.Need-store-requires
 store-requires c κs = search needs
 
--- src/lib.rt:75:9
 same-length : tie.Need-same-length
 same-length c = search needs
 
--- src/lib.rt:75:9
 returns : tie.Need-returns
 returns c = chunk-is _ _ _ _ _ 4 (c .before .before .before .before .words4 .result) (c .before .before .before .before .before .load .result) (c .before .before .before .before .before .before .if1 .taken) (c .before .before .store .ensures) (c .before .before .before .before .words4 .ensures) (c .before .before .before .before .before .load .ensures)
 
--- src/lib.rt:78:13
 load-requires-2 : tie.Need-load-requires-2
 load-requires-2 c κs = search needs
 
--- src/lib.rt:79:28
 words8-requires : tie.Need-words8-requires
 words8-requires c κs = search needs
 
--- src/lib.rt:79:9
 store-requires-2 : tie.Need-store-requires-2
 store-requires-2 c κs = search needs
 
--- src/lib.rt:80:9
 same-length-2 : tie.Need-same-length-2
 same-length-2 c = search needs
 
--- src/lib.rt:80:9
 returns-2 : tie.Need-returns-2
 returns-2 c = chunk-is _ _ _ _ _ 8 (c .before .before .before .before .words8 .result) (c .before .before .before .before .before .load2 .result) (c .before .before .before .before .before .before .if2 .taken) (c .before .before .store2 .ensures) (c .before .before .before .before .words8 .ensures) (c .before .before .before .before .before .load2 .ensures)
 
--- src/lib.rt:82:9
 load-requires-3 : tie.Need-load-requires-3
 load-requires-3 c κs = (search needs, omega (arith, lane-sixteen (c .before .before .before .before .args .l) (c .before .before .before .before .pre .0) (c .before .if1 .left) (c .if2 .left)))
 
--- src/lib.rt:83:25
 words16-requires : tie.Need-words16-requires
 words16-requires c κs = search needs
 
--- src/lib.rt:83:5
 store-requires-3 : tie.Need-store-requires-3
 store-requires-3 c κs = (search needs, omega (arith, lane-sixteen (c .before .before .before .before .before .before .before .args .l) (c .before .before .before .before .before .before .before .pre .0) (c .before .before .before .before .if1 .left) (c .before .before .before .if2 .left)))
 
--- src/lib.rt:68:1
 same-length-3 : tie.Need-same-length-3
 same-length-3 c = search needs
 
--- src/lib.rt:68:1
 returns-3 : tie.Need-returns-3
 returns-3 c = chunk-is _ _ _ _ _ 16 (c .before .before .before .before .words16 .result) (c .before .before .before .before .before .load3 .result) (lane-sixteen (c .before .before .before .before .before .before .before .before .before .before .args .l) (c .before .before .before .before .before .before .before .before .before .before .pre .0) (c .before .before .before .before .before .before .before .if1 .left) (c .before .before .before .before .before .before .if2 .left)) (c .before .before .store3 .ensures) (c .before .before .before .before .words16 .ensures) (c .before .before .before .before .before .load3 .ensures)
 

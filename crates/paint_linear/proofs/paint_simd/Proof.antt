@@ -1,23 +1,15 @@
+-- `paint_simd` meets its contract. Assumes nothing.
 use borrow.Author.Needs.{needs}
 use native.Mathlib.Omega.{arith}
-use Prim.Native.Nat.{ℕ, _+_, _*_, _-_, _/_, _%_, _^_, _<_, _≤_}
-use mathlib.Core.Path.{_≡_, sym, subst, refl, ap, _∙_}
-use lib.ListN.{length, getD}
-use Rattle.painting.proofs.Whole.{chunk-is}
-use Rattle.painting.proofs.Refusals.{lane-sixteen, lane-sizes}
-use Rattle.painting.proofs.Steps.{Plainly, plain-turn, plain-end, InChunks, chunks-start, chunk-turn, chunks-end}
-use Rattle.painting.proofs.Splitting.{plain-in-blocks}
+use Prim.Native.Nat.{_-_}
+use mathlib.Core.Path.{_≡_, refl, _∙_}
+use lib.ListN.{length, length-map}
+use Rattle.painting.proofs.Refusals.{lane-sizes}
+use Rattle.painting.proofs.Steps.{InChunks, chunks-start, chunk-turn, chunks-end}
 use Rattle.painting.proofs.Masking.{length-masked}
-use mathlib.Core.List.{map, _++_}
-use lib.ListN.{take, drop, length-map}
-use lib.Ieee.{nan}
 use Rattle.paint_linear.specs.Rules.{plainSample, laneChunk}
 use Rattle.paint_linear.proofs.paint_simd.Statement.{statement}
 use Rattle.paint_linear.proofs.paint_simd.Tie as tie
-use Rattle.paint_linear.proofs.paint_simd.Reads as reads
-use Rattle.paint_linear.proofs.paint_simd.Lts as lts
-use Rattle.paint_linear.proofs.chunk.Reads as chunk-reads
-use Rattle.paint_linear.proofs.rest.Reads as rest-reads
 
 abbrev Inv-loop : tie.InvT-loop
 Inv-loop cmap p l src out₀ n base₀ out base = (n ≡ length src) × InChunks l (laneChunk cmap p) (plainSample cmap p) src base out
@@ -25,39 +17,30 @@ Inv-loop cmap p l src out₀ n base₀ out base = (n ≡ length src) × InChunks
 abbrev μ-loop : tie.MeasureT-loop
 μ-loop cmap p l src out₀ n base₀ out base = n - base
 
--- src/lib.rt:122:5
 loop-holds : tie.Need-loop-holds Inv-loop μ-loop
 loop-holds c = (refl, chunks-start (search needs))
 
--- src/lib.rt:122:16
 sub-loop : tie.Need-sub-loop Inv-loop μ-loop
 sub-loop c = search needs
 
--- src/lib.rt:123:9
 chunk-requires : tie.Need-chunk-requires Inv-loop μ-loop
 chunk-requires c κs = (c .before .before .before .before .before .pre .0, omega arith, omega arith)
 
--- src/lib.rt:124:9
 add-base : tie.Need-add-base Inv-loop μ-loop
 add-base c = search needs
 
--- src/lib.rt:122:5
 loop-less : tie.Need-loop-less Inv-loop μ-loop
 loop-less c = omega (arith, lane-sizes (c .before .before .before .before .before .before .before .before .args .l) (c .before .before .before .before .before .before .before .before .pre .0) .0)
 
--- src/lib.rt:122:5
 loop-again : tie.Need-loop-again Inv-loop μ-loop
 loop-again c = (refl, chunk-turn (c .before .before .before .before .before .loop .inv .1) (lane-sizes _ (c .before .before .before .before .before .before .before .before .pre .0) .0) (omega arith) (λ xs. length-masked _ _ xs _ (length-map xs _)) (c .before .before .chunk .ensures))
 
--- src/lib.rt:126:5
 rest-requires : tie.Need-rest-requires Inv-loop μ-loop
 rest-requires c κs = search needs
 
--- src/lib.rt:116:1
 same-length : tie.Need-same-length Inv-loop μ-loop
 same-length c = search needs
 
--- src/lib.rt:116:1
 returns : tie.Need-returns Inv-loop μ-loop
 returns c = c .before .before .rest .ensures ∙ chunks-end (c .before .before .before .before .before .loop .inv .1) (omega arith)
 
