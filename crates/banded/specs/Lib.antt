@@ -1,0 +1,5 @@
+pub mod Record
+pub mod EqualBands
+pub mod ManualRanges
+pub mod Given
+pub mod Unmappable

@@ -1,0 +1,5 @@
+pub mod Band
+pub mod PlainRule
+pub mod LaneRule
+pub mod Packed
+pub mod Parts

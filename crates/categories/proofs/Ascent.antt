@@ -1,0 +1,61 @@
+-- Keys ascend where each is below the next; then each is below all after it. Assumes nothing.
+use mathlib.Core.Path.{_≡_, refl, sym, subst}
+use mathlib.Core.Bool.{true, _&&_}
+use mathlib.Core.List.{List}
+use mathlib.Core.Logic.{⊎-elim}
+use Prim.Native.Nat.{ℕ, zero, suc, _+_, _-_, _≤_, _<_}
+use native.Mathlib.Omega.{arith}
+use native.Mathlib.Nat.{eq-or-lt-of-le}
+use native.Mathlib.Numerals.{add-one}
+use lib.Dec.{T, le→leb, ltb→lt}
+use lib.Ieee.Fits.{and-l, and-r}
+use lib.IntN.{ℤ, pos, negsuc}
+use lib.ListN.{getD}
+use lib.Signed.{ltZ, leZ, ltZ-yes, leZ-yes, <ℤ-≤ℤ-trans, <ℤ-irrefl}
+use Rattle.categories.specs.Ascending.{ascends}
+
+-- ---- the order of two keys
+pub lt→le : (a b : ℤ) → T (ltZ a b) → T (leZ a b)
+lt→le (pos a) (pos b) h = let l = ltb→lt a b h in le→leb a b (omega arith)
+lt→le (pos a) (negsuc b) h = h
+lt→le (negsuc a) (pos b) h = tt
+lt→le (negsuc a) (negsuc b) h = let l = ltb→lt b a h in le→leb b a (omega arith)
+
+pub lt-le : (a b c : ℤ) → T (ltZ a b) → T (leZ b c) → T (ltZ a c)
+lt-le a b c h k = <ℤ-≤ℤ-trans (ltZ-yes {a = a} {b = b} h) (leZ-yes {a = b} {b = c} k) .lt
+
+pub lt-lt : (a b c : ℤ) → T (ltZ a b) → T (ltZ b c) → T (ltZ a c)
+lt-lt a b c h k = lt-le a b c h (lt→le b c k)
+
+pub lt-apart : (a b : ℤ) → T (ltZ a b) → a ≡ b → ⊥
+lt-apart a b h e = <ℤ-irrefl (ltZ-yes {a = b} {b = b} (subst (λ (x : ℤ). T (ltZ x b)) e h))
+
+-- ---- the counted keys
+pub counted-below : (keys : List ℤ) (count : ℕ) → T (ascends keys count) → (i j : ℕ) → i < j → j < count → T (ltZ (getD keys i (pos 0)) (getD keys j (pos 0)))
+unfolding ascends
+counted-below keys zero h i j p q = absurd (omega arith)
+counted-below keys (suc zero) h i j p q = absurd (omega arith)
+counted-below keys (suc (suc n)) h i j p q =
+    let rest = and-l (ascends keys (suc n)) (ltZ (getD keys n (pos 0)) (getD keys (suc n) (pos 0))) h in
+    let last = and-r (ascends keys (suc n)) (ltZ (getD keys n (pos 0)) (getD keys (suc n) (pos 0))) h in
+    ⊎-elim
+    (λ (e : j ≡ suc n). subst (λ (k : ℕ). T (ltZ (getD keys i (pos 0)) (getD keys k (pos 0)))) (sym e)
+    (⊎-elim
+    (λ (g : i ≡ n). subst (λ (k : ℕ). T (ltZ (getD keys k (pos 0)) (getD keys (suc n) (pos 0)))) (sym g) last)
+    (λ (g : i < n). lt-lt (getD keys i (pos 0)) (getD keys n (pos 0)) (getD keys (suc n) (pos 0)) (counted-below keys (suc n) rest i n g (omega arith)) last)
+    (eq-or-lt-of-le (omega arith))))
+    (λ (g : j < suc n). counted-below keys (suc n) rest i j p g)
+    (eq-or-lt-of-le (omega arith))
+
+-- one key more
+pub one-more : (keys : List ℤ) (i : ℕ) → 0 < i → ascends keys (i + 1) ≡ (ascends keys i && ltZ (getD keys (i - 1) (pos 0)) (getD keys i (pos 0)))
+unfolding ascends
+one-more keys zero p = absurd (omega arith)
+one-more keys (suc n) p = let e : suc n - 1 ≡ n = omega arith in rw (add-one (suc n), e)
+
+-- none or one ascends
+pub few : (keys : List ℤ) (i : ℕ) → i ≤ 1 → ascends keys i ≡ true
+unfolding ascends
+few keys zero h = refl
+few keys (suc zero) h = refl
+few keys (suc (suc i)) h = absurd (omega arith)

@@ -1,0 +1,23 @@
+-- The form in which the code looks a sample up in a table of `size` words: the test of the sample, and the float whose
+-- whole part is the place that the code reads whatever the test says. Definitions only.
+use Prim.Native.Nat.{ℕ, zero, suc}
+use mathlib.Core.Bool.{Bool, true, cond, _&&_}
+use lib.IntN.{pos}
+use lib.Ieee.{Float, fin, binary32, lt, le, ofInt}
+use Rattle.floats.specs.RampIndex.{nought}
+
+abbrev pub minusOne : Float
+minusOne = fin true 1 (pos 0)
+
+-- the size as a float; above -1 and below the limit of an empty table lies nothing
+unfoldable pub limit : (size : ℕ) → Float
+limit zero = minusOne
+limit (suc n) = ofInt binary32 (pos (suc n))
+
+-- above -1 and below the size, so no NaN
+unfoldable pub inTable : (size : ℕ) → Float → Bool
+inTable size v = lt minusOne v && lt v (limit size)
+
+-- the sample itself from 0 to below the size, else 0
+unfoldable pub kept : (size : ℕ) → Float → Float
+kept size v = cond (le nought v && lt v (limit size)) v nought

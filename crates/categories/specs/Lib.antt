@@ -1,0 +1,4 @@
+pub mod Rule
+pub mod InTable
+pub mod Ascending
+pub mod Narrowing

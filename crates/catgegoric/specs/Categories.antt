@@ -1,0 +1,44 @@
+-- Categories: keys with colours, ascending, the last given of equal keys (docs/RULES.md, "Categoric"). Definitions only.
+use Prim.Native.Nat.{ℕ, zero, suc}
+use mathlib.Core.Bool.{Bool, true, cond, _&&_}
+use mathlib.Core.List.{List, [], _∷_, map}
+use lib.IntN.{ℤ, pos}
+use lib.ListN.{length, getD}
+use lib.Signed.{ltZ}
+
+pub record Category : Type 0 where
+  pub key : ℤ
+  pub color : ℕ
+
+abbrev pub category : ℤ → ℕ → Category
+category key color = record { key = key; color = color }
+
+-- a category put behind the smaller keys: in the place of an equal key, else before the larger ones
+unfoldable pub inserted : (key : ℤ) (color : ℕ) → List Category → List Category
+inserted key color [] = category key color ∷ []
+inserted key color (c ∷ cs) =
+    cond (ltZ (c .key) key) (c ∷ inserted key color cs)
+    (cond (ltZ key (c .key)) (category key color ∷ c ∷ cs) (category key color ∷ cs))
+
+-- the first n keys with their colours, put in one after the other
+unfoldable pub firstOf : (n : ℕ) (keys : List ℤ) (colors : List ℕ) → List Category
+firstOf zero keys colors = []
+firstOf (suc n) keys colors = inserted (getD keys n (pos 0)) (getD colors n 0) (firstOf n keys colors)
+
+abbrev pub categories : (keys : List ℤ) (colors : List ℕ) → List Category
+categories keys colors = firstOf (length keys) keys colors
+
+abbrev pub keysOf : List Category → List ℤ
+keysOf cs = map (λ c. c .key) cs
+
+abbrev pub colorsOf : List Category → List ℕ
+colorsOf cs = map (λ c. c .color) cs
+
+-- each key is below the next one
+abbrev pub underNext : ℤ → List ℤ → Bool
+underNext k [] = true
+underNext k (j ∷ ks) = ltZ k j
+
+unfoldable pub ascending : List ℤ → Bool
+ascending [] = true
+ascending (k ∷ ks) = underNext k ks && ascending ks

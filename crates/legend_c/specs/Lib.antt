@@ -1,0 +1,4 @@
+pub mod Answers
+pub mod Colors
+pub mod Keys
+pub mod Ramps

@@ -1,0 +1,57 @@
+// Ramps, and looking a fraction up in one.
+use crate::answer;
+use crate::answer::LegendAnswer;
+use colormap::MadeRamp;
+ghost use mathlib.Core.Path.{_≡_};
+ghost use Rattle.colormap.specs.Made.{rampOfList, rampOfPreset};
+ghost use Rattle.lookup.specs.Entries.{plainEntry, laneEntry, entryColor};
+ghost use Rattle.legend_c.specs.Ramps.{rampAnswer};
+
+// A ramp's 256 colours, all 0 beside a refusal.
+#[repr(C)]
+pub struct LegendRamp {
+    pub answer: LegendAnswer,
+    pub colors: [u32; 256],
+}
+
+#[no_mangle]
+pub extern "C" fn legend_ramp_from_list(colors: &[u32]) -> LegendRamp
+    ensures { λ r. ⌜ r ≡ rampAnswer (rampOfList (now (colors .entry))) ⌝ }
+{
+    flat(colormap::create(colors))
+}
+
+#[no_mangle]
+pub extern "C" fn legend_ramp_from_palette(number: usize) -> LegendRamp
+    ensures { λ r. ⌜ r ≡ rampAnswer (rampOfPreset number) ⌝ }
+{
+    flat(colormap::create_for_preset(number))
+}
+
+fn flat(made: MadeRamp) -> LegendRamp
+    ensures { λ r. ⌜ r ≡ rampAnswer made ⌝ }
+{
+    let refused = made.answer;
+    let ramp = made.ramp;
+    let colors = ramp.cmap;
+    LegendRamp {
+        answer: answer::told(refused),
+        colors,
+    }
+}
+
+#[no_mangle]
+pub extern "C" fn legend_get_color(ramp: &[u32; 256], fraction: f32) -> u32
+    ensures { λ r. ⌜ r ≡ entryColor (now (ramp .entry)) (plainEntry fraction) ⌝ }
+{
+    lookup::get_color(ramp, fraction)
+}
+
+// One lane of the chunk's lookup.
+#[no_mangle]
+pub extern "C" fn legend_get_color_simd(ramp: &[u32; 256], fraction: f32) -> u32
+    ensures { λ r. ⌜ r ≡ entryColor (now (ramp .entry)) (laneEntry fraction) ⌝ }
+{
+    let colors = lookup::get_color_simd(1, ramp, [fraction; 16]);
+    colors[0]
+}

@@ -1,0 +1,114 @@
+//! Which calls are compared, on which inputs, and how many.
+
+use crate::engine::{Difference, Fault, Inputs, Subject, compare};
+use crate::subjects::{hex, keys, lookups, palettes, patterns, ramps};
+use std::time::{Duration, Instant};
+
+/// How much is run.
+#[derive(Debug, Clone, Copy)]
+pub struct Plan {
+    pub seed: u64,
+    /// Random inputs of each call that has them; one in 50 as many where an input is a list of colours.
+    pub random: u64,
+    /// One in this many f32 patterns.
+    pub patterns: u32,
+    /// One in this many of the lists that have every pair of channel values.
+    pub pairs: u64,
+}
+
+impl Plan {
+    /// What the gate runs: seconds.
+    pub fn gate(seed: u64) -> Plan {
+        Plan { seed, random: 200_000, patterns: 257, pairs: 509 }
+    }
+
+    /// Everything: all f32, all pairs of channel values, and as many random inputs as asked.
+    pub fn full(seed: u64, random: u64) -> Plan {
+        Plan { seed, random, patterns: 1, pairs: 1 }
+    }
+
+    /// Next to nothing, for the self-test.
+    pub fn least(seed: u64) -> Plan {
+        Plan { seed, random: 100, patterns: 1 << 20, pairs: 1 << 18 }
+    }
+}
+
+type Go = dyn Fn(&Plan, Option<Fault>) -> Result<u64, Difference>;
+
+/// One comparison: a call over its inputs.
+pub struct Run {
+    pub name: &'static str,
+    go: Box<Go>,
+}
+
+/// What a comparison without difference was.
+pub struct Report {
+    pub name: &'static str,
+    pub cases: u64,
+    pub time: Duration,
+}
+
+impl Run {
+    fn new<S: Subject>(
+        name: &'static str,
+        subject: impl Fn() -> S + 'static,
+        inputs: impl Fn(&Plan) -> Inputs<'static, S::Input> + 'static,
+    ) -> Run {
+        Run { name, go: Box::new(move |plan, fault| compare(&subject(), &inputs(plan), fault)) }
+    }
+
+    pub fn go(&self, plan: &Plan, fault: Option<Fault>) -> Result<Report, Difference> {
+        let began = Instant::now();
+        let cases = (self.go)(plan, fault)?;
+        Ok(Report { name: self.name, cases, time: began.elapsed() })
+    }
+}
+
+/// Every comparison.
+pub fn runs() -> Vec<Run> {
+    vec![
+        Run::new("hex, every ASCII pair at each place", || hex::Hex, |_| hex::all_pairs()),
+        Run::new("hex, random texts of 0 to 12 bytes", || hex::Hex, |plan| hex::random(plan.seed, plan.random)),
+        Run::new("palettes", || palettes::Palettes, |_| palettes::all()),
+        Run::new("ramps of palettes", || palettes::PaletteRamps, |_| palettes::all()),
+        Run::new("ramps of random lists", || ramps::ListRamps, |plan| ramps::random(plan.seed, plan.random / 50)),
+        Run::new("ramps of every pair of channel values", || ramps::ListRamps, |plan| ramps::every_pair(plan.pairs)),
+        Run::new("look-up, plain, near the edges", lookups::Plain::default, |_| lookups::edges()),
+        Run::new("look-up, plain, f32 patterns", lookups::Plain::default, |plan| patterns::every(plan.patterns)),
+        Run::new("look-up, 4, 8, 16 lanes, near the edges", lookups::Lanes::default, |_| lookups::edges()),
+        Run::new("look-up, 4, 8, 16 lanes, f32 patterns", lookups::Lanes::default, |plan| {
+            patterns::every(plan.patterns)
+        }),
+        Run::new("keys, near the edges", || keys::Keys, |_| keys::edges()),
+        Run::new("keys, f32 patterns", || keys::Keys, |plan| patterns::every(plan.patterns)),
+    ]
+}
+
+/// Runs the comparisons whose names have `only` in them and prints a line for each; whether there was no difference, and
+/// how many cases there were.
+pub fn run_all(plan: &Plan, only: &str) -> (bool, u64) {
+    println!("seed {}", plan.seed);
+    let (mut same, mut total) = (true, 0);
+    for run in runs().into_iter().filter(|run| run.name.contains(only)) {
+        match run.go(plan, None) {
+            Ok(Report { name, cases, time }) => {
+                total += cases;
+                println!("{cases:>14} cases, no difference, {:>7.1} s: {name}", time.as_secs_f64());
+            }
+            Err(difference) => {
+                same = false;
+                println!("DIFFERENCE: {}: {difference}", run.name);
+            }
+        }
+    }
+    println!("{total:>14} cases in all");
+    (same, total)
+}
+
+/// What a test says, and returns, where there is nothing to compare with.
+pub fn absent() -> bool {
+    if !oracle::PRESENT {
+        println!("passed over: the reference's text is not here (LEGEND_ORACLE_SRC)");
+    }
+    !oracle::PRESENT
+}

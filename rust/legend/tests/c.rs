@@ -1,0 +1,164 @@
+//! The header and the C example: they compile with every warning an error, and say what the Rust side says.
+
+use legend::ffi::{LegendAnswer, LegendColor, LegendKey, LegendPalette, LegendRamp};
+use std::collections::BTreeSet;
+use std::fs;
+use std::path::{Path, PathBuf};
+use std::process::Command;
+
+#[path = "../examples/first.rs"]
+#[allow(dead_code)]
+mod first;
+
+const ARCHIVE: &str = env!("LEGEND_C_ARCHIVE");
+const STRICT: [&str; 4] = ["-Wall", "-Wextra", "-Werror", "-pedantic"];
+
+fn repository() -> PathBuf {
+    Path::new(env!("CARGO_MANIFEST_DIR")).join("../..")
+}
+
+fn header() -> String {
+    fs::read_to_string(repository().join("include/legend.h")).expect("the header is there")
+}
+
+/// Runs a command, which has to succeed, and gives what it wrote.
+fn run(command: &mut Command) -> String {
+    let ran = command.output().unwrap_or_else(|error| panic!("{command:?}: {error}"));
+    assert!(ran.status.success(), "{command:?}\n{}", String::from_utf8_lossy(&ran.stderr));
+    String::from_utf8(ran.stdout).expect("text")
+}
+
+/// A compiler with every warning an error, in the folder for this test's files.
+fn compiler(name: &str, standard: &str) -> Command {
+    let mut command = Command::new(name);
+    command
+        .current_dir(env!("CARGO_TARGET_TMPDIR"))
+        .arg(standard)
+        .args(STRICT)
+        .arg("-I")
+        .arg(repository().join("include"));
+    command
+}
+
+/// A struct's size and alignment, and each field's offset and size, as the Rust side has them.
+struct Layout {
+    name: &'static str,
+    size: usize,
+    align: usize,
+    fields: Vec<(&'static str, usize, usize)>,
+}
+
+fn size_of_field<S, F>(_: impl Fn(&S) -> &F) -> usize {
+    size_of::<F>()
+}
+
+macro_rules! layouts {
+    ($($name:ident { $($field:ident),* })*) => {
+        vec![$({
+            // No field is left out.
+            let _ = |all: $name| { let $name { $($field: _),* } = all; };
+            Layout {
+                name: stringify!($name),
+                size: size_of::<$name>(),
+                align: align_of::<$name>(),
+                fields: vec![$((
+                    stringify!($field),
+                    std::mem::offset_of!($name, $field),
+                    size_of_field(|all: &$name| &all.$field),
+                )),*],
+            }
+        }),*]
+    };
+}
+
+fn layouts() -> Vec<Layout> {
+    layouts! {
+        LegendAnswer { number, indexed, index }
+        LegendColor { answer, color }
+        LegendPalette { answer, colors, count }
+        LegendRamp { answer, colors }
+        LegendKey { key, whole }
+    }
+}
+
+/// A source that compiles only where the header's structs have these layouts, in C and in C++.
+fn asserted(layouts: &[Layout], check: &str, align: &str) -> String {
+    let mut source = String::from("#include \"legend.h\"\n");
+    for Layout { name, size, align: alignment, fields } in layouts {
+        source += &format!("{check}(sizeof({name}) == {size}, \"{name}\");\n");
+        source += &format!("{check}({align}({name}) == {alignment}, \"{name}\");\n");
+        for (field, offset, size) in fields {
+            source += &format!("{check}(offsetof({name}, {field}) == {offset}, \"{name}.{field}\");\n");
+            source += &format!("{check}(sizeof((({name} *)0)->{field}) == {size}, \"{name}.{field}\");\n");
+        }
+    }
+    source
+}
+
+fn compile_layouts(name: &str, layouts: &[Layout]) -> [bool; 2] {
+    [("cc", "-std=c11", "c", "_Static_assert", "_Alignof"), ("c++", "-std=c++17", "cpp", "static_assert", "alignof")]
+        .map(|(program, standard, suffix, check, align)| {
+            let file = format!("{name}.{suffix}");
+            let source = asserted(layouts, check, align);
+            fs::write(Path::new(env!("CARGO_TARGET_TMPDIR")).join(&file), source).expect("the folder is writable");
+            let compiled = compiler(program, standard).args(["-fsyntax-only", &file]).output().expect("a compiler");
+            compiled.status.success()
+        })
+}
+
+#[test]
+fn layouts_are_the_headers() {
+    assert_eq!(compile_layouts("layouts", &layouts()), [true, true]);
+}
+
+#[test]
+fn another_layout_is_seen() {
+    for at in 0..layouts().len() {
+        let mut other = layouts();
+        other[at].fields[1].1 += 1;
+        assert_eq!(compile_layouts(&format!("other{at}"), &other), [false, false]);
+    }
+}
+
+#[test]
+fn every_struct_has_a_layout_here() {
+    let declared: BTreeSet<_> = words_after(&header(), "typedef struct ");
+    assert_eq!(declared, layouts().iter().map(|layout| layout.name.to_string()).collect());
+}
+
+/// The names that stand after each `mark`.
+fn words_after(text: &str, mark: &str) -> BTreeSet<String> {
+    let name = |part: &str| part.chars().take_while(|c| c.is_alphanumeric() || *c == '_').collect();
+    text.split(mark).skip(1).map(name).collect()
+}
+
+#[test]
+fn header_archive_and_crate_have_the_same_calls() {
+    let symbols = run(Command::new("nm").args(["--defined-only", "--extern-only", ARCHIVE]));
+    let exported = words_after(&symbols, " T ");
+    let declared = |text: &str| -> BTreeSet<String> {
+        let calls = words_after(text, " legend_").into_iter().map(|name| format!("legend_{name}"));
+        calls.filter(|name| text.contains(&format!("{name}("))).collect()
+    };
+    assert!(!exported.is_empty());
+    assert_eq!(declared(&header()), exported);
+    let crate_source =
+        fs::read_to_string(Path::new(env!("CARGO_MANIFEST_DIR")).join("src/ffi.rs")).expect("the source");
+    assert_eq!(declared(&crate_source), exported);
+}
+
+#[test]
+fn header_alone_compiles() {
+    let header = repository().join("include/legend.h");
+    run(compiler("cc", "-std=c11").args(["-fsyntax-only", "-x", "c"]).arg(&header));
+    run(compiler("c++", "-std=c++17").args(["-fsyntax-only", "-x", "c++"]).arg(&header));
+}
+
+#[test]
+fn the_c_example_prints_what_the_rust_example_does() {
+    let program = Path::new(env!("CARGO_TARGET_TMPDIR")).join("first");
+    let source = repository().join("c/first.c");
+    run(compiler("cc", "-std=c11").arg(source).arg(ARCHIVE).arg("-o").arg(&program));
+    let lines = first::lines().expect("nothing that the example counts on is refused");
+    assert_eq!(run(&mut Command::new(program)).lines().collect::<Vec<_>>(), lines);
+}
