@@ -1,14 +1,29 @@
 -- The claim over the table of examples: antt works each row out. Assumes nothing.
 use lib.Dec.{T}
-use lib.Ieee.{add, mul, le, ofBits}
-use mathlib.Core.List.{List}
+use lib.Ieee.{add, sub, mul, div, lt, le, eq, isNan, ofInt, ofBits}
 use Rattle.lists.specs.Tabulate.{tabulate}
+use Rattle.lists.specs.Padded.{padded}
 use Rattle.color.specs.Word.{wordOf}
 use Rattle.color.specs.Hex.{hexColor, hexForm, hexDigit, twoDigits, hexPair, pairAt, alphaOf, ofPairs}
+use Rattle.cast.specs.Truncated.{truncated}
 use Rattle.floats.specs.RampIndex.{plainIndex, laneIndex}
+use Rattle.interpolate.specs.Fraction.{fraction, plainFraction}
 use Rattle.lookup.specs.Entries.{plainEntry, laneEntry}
-use Rattle.examples.specs.Examples.{gray, G, asked, examples, allHold}
+use Rattle.colormap.specs.Positions.{step, position, rampColors}
+use Rattle.colormapper.specs.Unmappable.{unmappable}
+use Rattle.linear.specs.Rule as linear
+use Rattle.bands.specs.Band.{lastOf}
+use Rattle.bands.specs.PlainRule.{firstBand, edges, plainRule, bandColor, ruleColor}
+use Rattle.bands.specs.LaneRule.{edged, scanned, laneColors}
+use Rattle.banded.specs.Record.{bandedOf, beside}
+use Rattle.banded.specs.EqualBands.{bandStep, bandStart, equalBands, equalRefusal, withEqualBands}
+use Rattle.categories.specs.Rule as rule
+use Rattle.catgegoric.specs.Categories.{inserted, firstOf}
+use Rattle.catgegoric.specs.Table.{foremost, tabled, tableSize, written, table}
+use Rattle.catgegoric.specs.Keys.{outsideFrom}
+use Rattle.catgegoric.specs.Made.{recordOf, madeUnless, manyRefusal, valuesRefusal}
+use Rattle.examples.specs.Examples.{gray, G, categoryOf, asked, examples, allHold}
 
 pub all-hold : T (allHold examples)
-unfolding allHold examples asked gray G tabulate wordOf plainEntry laneEntry plainIndex laneIndex hexColor hexForm hexDigit twoDigits hexPair pairAt alphaOf ofPairs add mul le ofBits
+unfolding allHold examples asked gray G categoryOf tabulate padded wordOf hexColor hexForm hexDigit twoDigits hexPair pairAt alphaOf ofPairs truncated plainIndex laneIndex fraction plainFraction plainEntry laneEntry step position rampColors unmappable linear.plainRule linear.laneRule linear.plainColor linear.laneColor lastOf firstBand edges plainRule bandColor ruleColor edged scanned laneColors bandedOf beside bandStep bandStart equalBands equalRefusal withEqualBands rule.tableRule rule.firstKey rule.keyRule rule.plainRule rule.plainColor rule.tableColor rule.keyColor inserted firstOf foremost tabled tableSize written table outsideFrom recordOf madeUnless manyRefusal valuesRefusal add sub mul div lt le eq isNan ofInt ofBits
 all-hold = tt

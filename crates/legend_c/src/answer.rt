@@ -12,6 +12,7 @@ pub struct LegendAnswer {
     pub index: usize,
 }
 
+// An answer as C reads it: an enum does not pass to C.
 pub fn told(a: Answer) -> LegendAnswer
     ensures { λ r. ⌜ r ≡ answerOf a ⌝ }
 {

@@ -24,6 +24,7 @@ pub struct LegendPalette {
     pub count: usize,
 }
 
+// The colour of `#RRGGBB` or `#RRGGBBAA`.
 #[no_mangle]
 pub extern "C" fn legend_hex(text: &[u8]) -> LegendColor
     ensures { λ r. ⌜ r ≡ colorAnswer (hexColor (now (text .entry))) ⌝ }
@@ -40,6 +41,7 @@ pub extern "C" fn legend_hex(text: &[u8]) -> LegendColor
     }
 }
 
+// The palette with a number.
 #[no_mangle]
 pub extern "C" fn legend_palette(number: usize) -> LegendPalette
     ensures { λ r. ⌜ r ≡ paletteAnswer (paletteOf number) ⌝ }

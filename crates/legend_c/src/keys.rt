@@ -11,6 +11,7 @@ pub struct LegendKey {
     pub whole: u32,
 }
 
+// The key of a sample.
 #[no_mangle]
 pub extern "C" fn legend_to_i64(x: f32) -> LegendKey
     ensures { λ r. ⌜ r ≡ keyOf (truncated x) ⌝ }

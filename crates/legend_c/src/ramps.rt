@@ -14,6 +14,7 @@ pub struct LegendRamp {
     pub colors: [u32; 256],
 }
 
+// A list of colours spread over a ramp.
 #[no_mangle]
 pub extern "C" fn legend_ramp_from_list(colors: &[u32]) -> LegendRamp
     ensures { λ r. ⌜ r ≡ rampAnswer (rampOfList (now (colors .entry))) ⌝ }
@@ -21,6 +22,7 @@ pub extern "C" fn legend_ramp_from_list(colors: &[u32]) -> LegendRamp
     flat(colormap::create(colors))
 }
 
+// A palette spread over a ramp.
 #[no_mangle]
 pub extern "C" fn legend_ramp_from_palette(number: usize) -> LegendRamp
     ensures { λ r. ⌜ r ≡ rampAnswer (rampOfPreset number) ⌝ }
@@ -28,6 +30,7 @@ pub extern "C" fn legend_ramp_from_palette(number: usize) -> LegendRamp
     flat(colormap::create_for_preset(number))
 }
 
+// A ramp as C reads it.
 fn flat(made: MadeRamp) -> LegendRamp
     ensures { λ r. ⌜ r ≡ rampAnswer made ⌝ }
 {
@@ -40,6 +43,7 @@ fn flat(made: MadeRamp) -> LegendRamp
     }
 }
 
+// The colour of a fraction. The ramp is lent: by value it would be copied at each call.
 #[no_mangle]
 pub extern "C" fn legend_get_color(ramp: &[u32; 256], fraction: f32) -> u32
     ensures { λ r. ⌜ r ≡ entryColor (now (ramp .entry)) (plainEntry fraction) ⌝ }
@@ -47,7 +51,7 @@ pub extern "C" fn legend_get_color(ramp: &[u32; 256], fraction: f32) -> u32
     lookup::get_color(ramp, fraction)
 }
 
-// One lane of the chunk's lookup.
+// The colour of a fraction by the rule of the lanes: one lane of the look-up that the painters use.
 #[no_mangle]
 pub extern "C" fn legend_get_color_simd(ramp: &[u32; 256], fraction: f32) -> u32
     ensures { λ r. ⌜ r ≡ entryColor (now (ramp .entry)) (laneEntry fraction) ⌝ }

@@ -148,6 +148,43 @@ fn header_archive_and_crate_have_the_same_calls() {
 }
 
 #[test]
+fn refusals_have_the_headers_numbers() {
+    use legend::Refusal::*;
+    let all = [
+        EmptyText,
+        NotHexColor,
+        NotHexByte { pair: 0 },
+        TooFewColors,
+        TooManyColors,
+        NoSuchPalette,
+        StartAboveEnd,
+        TooManyBands,
+        ColorCountDiffers,
+        EmptyRange { range: 0 },
+        TooManyCategories,
+        RangeTooWide,
+        OutputLengthDiffers,
+        NoSuchLaneCount,
+        ScratchTooShort,
+        CountAboveCapacity,
+        KeyOutOfRange { key: 0 },
+    ];
+    for (number, why) in (1..).zip(all) {
+        assert_eq!(why.number(), number);
+        let written = words_after(&header(), &format!("{} = ", constant(why)));
+        assert_eq!(written, BTreeSet::from([number.to_string()]), "{why:?}");
+    }
+}
+
+/// The header's name of a refusal: LEGEND_NOT_HEX_BYTE for `NotHexByte`.
+fn constant(why: legend::Refusal) -> String {
+    let name = format!("{why:?}");
+    let words = name.chars().take_while(|c| c.is_alphabetic());
+    let upper = words.flat_map(|c| c.is_uppercase().then_some('_').into_iter().chain([c.to_ascii_uppercase()]));
+    format!("LEGEND{}", upper.collect::<String>())
+}
+
+#[test]
 fn header_alone_compiles() {
     let header = repository().join("include/legend.h");
     run(compiler("cc", "-std=c11").args(["-fsyntax-only", "-x", "c"]).arg(&header));
