@@ -104,7 +104,7 @@ fn limit_of(size: usize) -> f32
     if size == 0 { -1.0 } else { size as f32 }
 }
 
-// One of two words by a flag: a select, and no branch in the loops.
+// One of two words by a flag: a select in the loops over lanes.
 fn pick(flag: bool, x: u32, y: u32) -> u32
     ensures { λ r. ⌜ r ≡ cond flag x y ⌝ }
 {
