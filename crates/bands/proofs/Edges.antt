@@ -1,13 +1,13 @@
 -- The size of a difference is below E where the difference and its negative are. Assumes nothing.
+use Prim.Native.Nat.{ℕ, suc, _+_, _*_, _<_}
 use mathlib.Core.Path.{_≡_, refl, ap, _∙_}
 use mathlib.Core.Bool.{Bool, true, false, _&&_}
-use Prim.Native.Nat.{ℕ, suc, _+_, _*_, _<_}
 use native.Mathlib.Nat.{mul-pos, zero-lt-suc}
 use native.Mathlib.Omega.{arith}
-use borrow.Author.Tests.{lt-ltb}
 use lib.IntN.{ℤ, negsuc}
 use lib.Ieee.{Float, nan, inf, fin, binary32, up, down, lt, neg, sub, ofBits}
 use lib.Ieee.Fits.{up-pos, down-pos}
+use borrow.Author.Tests.{lt-ltb}
 use Rattle.floats.specs.Size.{abs}
 use Rattle.colormapper.specs.Tolerance.{E, within}
 

@@ -1,18 +1,17 @@
 -- The plain rule as colours, and both rules over bands that stand in three arrays. Assumes nothing.
+use Prim.Native.Nat.{ℕ, zero, suc, _+_, _-_, _≤_, _<_}
 use mathlib.Core.Path.{_≡_, refl, sym, ap, ap₂, _∙_}
 use mathlib.Core.Bool.{Bool, true, false, cond}
 use mathlib.Core.List.{List, [], _∷_, map}
-use Prim.Native.Nat.{ℕ, zero, suc, _+_, _-_, _≤_, _<_}
 use native.Mathlib.Numerals.{add-one}
 use native.Mathlib.Omega.{arith}
-use lib.Ieee.{Float}
-use lib.ListN.{length, getD, drop, drop-of-length-le}
+use lib.Ieee.{Float, lt}
+use lib.ListN.{drop, drop-of-length-le}
 use lib.Seq.{drop-cons}
 use Rattle.lists.specs.Tabulate.{tabulate}
 use Rattle.lists.proofs.Tabulated.{length-tabulate, getD-tabulate}
 use Rattle.colormapper.specs.declared.UnmappableColors.{UnmappableColors}
 use Rattle.colormapper.specs.Tolerance.{within}
-use lib.Ieee.{lt}
 use Rattle.bands.specs.declared.LegendBand.{LegendBand}
 use Rattle.bands.specs.Band.{holds, lastOf}
 use Rattle.bands.specs.PlainRule.{Rule, band, lowerEdge, upperEdge, low, high, gap, firstBand, edges, plainRule, bandColor, ruleColor, plainColor}
@@ -109,10 +108,10 @@ module _ (starts ends : List Float) (colors : List ℕ) where
   plain-packed zero u v h = absurd (omega arith)
   plain-packed (suc n) u v h = let bs = tabulate n (λ k. f (suc k)) in plain-form u (f 0) bs v ∙ ap (λ (l : LegendBand). firstColor (f 0 ∷ bs) v (edgeColor (f 0) l u v)) (last-is n)
 
-  pub lane-packed : (count : ℕ) (u : UnmappableColors) (vs : List Float) → 0 < count → laneColors (bands count) u vs ≡ scanned (edged u (f 0) (f (count - 1))) (bands count) (map (started u) vs)
+  pub lane-packed : (count : ℕ) (u : UnmappableColors) (vs : List Float) → 0 < count → laneColors (bands count) u vs ≡ scanned (edged u (f 0) (f (count - 1))) (bands count) (map (started (u .nodata)) vs)
   unfolding packed tabulate laneColors
   lane-packed zero u vs h = absurd (omega arith)
-  lane-packed (suc n) u vs h = let bs = tabulate n (λ k. f (suc k)) in ap (λ (l : LegendBand). scanned (edged u (f 0) l) (f 0 ∷ bs) (map (started u) vs)) (last-is n)
+  lane-packed (suc n) u vs h = let bs = tabulate n (λ k. f (suc k)) in ap (λ (l : LegendBand). scanned (edged u (f 0) l) (f 0 ∷ bs) (map (started (u .nodata)) vs)) (last-is n)
 
   -- the first band that holds a value, from the one at i on
   module _ (count i : ℕ) (v : Float) (o : ℕ) where

@@ -1,3 +1,9 @@
+pub mod Entries
+pub mod Updating
 pub mod Edges
 pub mod Forms
 pub mod Chunk
+pub mod Settling
+pub mod Ordering
+pub mod SampleLaw
+pub mod LaneLaw

@@ -15,8 +15,8 @@ pub record Lane : Type 0 where
   pub color : ℕ
 
 -- lanes start as nodata
-abbrev pub started : UnmappableColors → Float → Lane
-started u v = record { value = v; inside = false; color = u .nodata }
+abbrev pub started : (nodata : ℕ) → Float → Lane
+started nodata v = record { value = v; inside = false; color = nodata }
 
 -- a band overwrites the lanes that it holds
 abbrev pub over : LegendBand → Lane → Lane
@@ -42,4 +42,4 @@ scanned edge (b ∷ bs) lanes = cond (allInside (map (over b) lanes)) (map (λ (
 -- no bands: nodata
 unfoldable pub laneColors : List LegendBand → UnmappableColors → List Float → List ℕ
 laneColors [] u vs = map (λ (v : Float). u .nodata) vs
-laneColors (b ∷ bs) u vs = scanned (edged u b (lastOf b bs)) (b ∷ bs) (map (started u) vs)
+laneColors (b ∷ bs) u vs = scanned (edged u b (lastOf b bs)) (b ∷ bs) (map (started (u .nodata)) vs)

@@ -3,3 +3,4 @@ pub mod PlainRule
 pub mod LaneRule
 pub mod Packed
 pub mod Parts
+pub mod Sound

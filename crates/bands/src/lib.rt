@@ -4,18 +4,17 @@
 // sample. Every function here asks for a count of at most 64: its callers have refused a larger one (16) before.
 use colormapper::UnmappableColors;
 ghost use mathlib.Core.Path.{_≡_};
-ghost use mathlib.Core.Bool.{cond};
+ghost use mathlib.Core.Bool.{false, cond, _||_};
 ghost use Prim.Native.Nat.{_≤_, _<_};
-ghost use lib.Dec.{eqb};
 ghost use lib.Ieee.{nan};
-ghost use lib.ListN.{getD, take};
+ghost use lib.ListN.{length, getD, take};
 ghost use Rattle.lists.specs.Lanes.{Lanes};
 ghost use Rattle.colormapper.specs.Tolerance.{within};
 ghost use Rattle.bands.specs.Band.{holds};
 ghost use Rattle.bands.specs.Packed.{bandAt, packed};
 ghost use Rattle.bands.specs.PlainRule.{plainColor};
 ghost use Rattle.bands.specs.LaneRule.{laneColors};
-ghost use Rattle.bands.specs.Parts.{firstColor, edgeColor, laneEdgeColor, allBelow};
+ghost use Rattle.bands.specs.Parts.{firstColor, edgeColor, laneEdgeColor, allBelow, Scanned};
 
 // A band: from its start up to, but not at, its end.
 #[repr(C)]
@@ -25,11 +24,17 @@ pub struct LegendBand {
     pub color: u32,
 }
 
+// A chunk after the bands: its colours so far, and whether each lane lies in some band.
+pub struct Scan {
+    pub colors: [u32; 16],
+    pub finished: bool,
+}
+
 impl LegendBand {
     // How near an edge still counts as at the edge.
     pub const EDGE_TOLERANCE: f32 = 1e-4;
 
-    pub fn holds(self, value: f32) -> bool
+    fn holds(self, value: f32) -> bool
         ensures { λ r. ⌜ r ≡ holds self value ⌝ }
     {
         (value >= self.start) & (value < self.end)
@@ -105,8 +110,21 @@ fn first_colors(
     while 0 < i {
         i -= 1;
         let band = band_at(starts, ends, colors, i);
-        let next = overwritten(16, band, band.color, value, result);
+        let next = overwritten(band, value, result);
         result = next;
+    }
+    result
+}
+
+// The band's colour for the samples that it holds.
+fn overwritten(band: LegendBand, value: [f32; 16], words: [u32; 16]) -> [u32; 16]
+    ensures { λ r. ⌜ Lanes 0 16 r (λ k. cond (holds band (getD value k nan)) (band .color) (getD words k 0)) ⌝ }
+{
+    let mut result = [0u32; 16];
+    let mut i: usize = 0;
+    while i < 16 {
+        result[i] = pick(band.holds(value[i]), band.color, words[i]);
+        i += 1;
     }
     result
 }
@@ -140,7 +158,8 @@ fn edge_colors(
 
 // ---- the lane rule
 
-// The colours of a chunk. The lane count is a literal of the caller's: a test of it here would stand in every chunk.
+// The colours of a chunk. The lane counts of the painters are written out: the phases are vectorised for a lane count that is a
+// literal. A painter may call the two phases itself, with a literal, and spare the call.
 pub fn color_for_numeric_value_simd(
     lanes: usize,
     starts: &[f32; 64],
@@ -153,22 +172,101 @@ pub fn color_for_numeric_value_simd(
     requires { ⌜ (lanes ≤ 16) × (count ≤ 64) ⌝ }
     ensures { λ r. ⌜ take lanes r ≡ laneColors (packed (now (starts .entry)) (now (ends .entry)) (now (colors .entry)) count) u (take lanes value) ⌝ }
 {
-    let mut result = [u.nodata; 16];
-    if count == 0 {
-        return result;
+    if lanes == 4 {
+        let scan = scanned(4, starts, ends, colors, count, u.nodata, value);
+        return settled(4, starts, ends, colors, count, u, value, scan);
     }
-    let mut inside = [0u32; 16];
+    if lanes == 8 {
+        let scan = scanned(8, starts, ends, colors, count, u.nodata, value);
+        return settled(8, starts, ends, colors, count, u, value, scan);
+    }
+    if lanes == 16 {
+        let scan = scanned(16, starts, ends, colors, count, u.nodata, value);
+        return settled(16, starts, ends, colors, count, u, value, scan);
+    }
+    let scan = scanned(lanes, starts, ends, colors, count, u.nodata, value);
+    settled(lanes, starts, ends, colors, count, u, value, scan)
+}
+
+// The bands over a chunk, in order, until each lane lies in some band.
+pub fn scanned(
+    lanes: usize,
+    starts: &[f32; 64],
+    ends: &[f32; 64],
+    colors: &[u32; 64],
+    count: usize,
+    nodata: u32,
+    value: [f32; 16],
+) -> Scan
+    requires { ⌜ (lanes ≤ 16) × (count ≤ 64) ⌝ }
+    ensures { λ r. ⌜ Scanned lanes (packed (now (starts .entry)) (now (ends .entry)) (now (colors .entry)) count) nodata value r ⌝ }
+{
+    let mut result = [nodata; 16];
+    let mut inside = [false; 16];
     let mut i: usize = 0;
     while i < count {
         let band = band_at(starts, ends, colors, i);
-        let painted = overwritten(lanes, band, band.color, value, result);
-        let entered = overwritten(lanes, band, 1, value, inside);
-        if all_inside(lanes, entered) {
-            return painted;
+        if enter(lanes, band, &value, &mut result, &mut inside) {
+            return Scan {
+                colors: result,
+                finished: true,
+            };
         }
-        result = painted;
-        inside = entered;
         i += 1;
+    }
+    Scan {
+        colors: result,
+        finished: false,
+    }
+}
+
+// A band over the lanes that it holds. Whether each lane now lies in some band.
+fn enter(
+    lanes: usize,
+    band: LegendBand,
+    value: &[f32; 16],
+    words: &mut [u32; 16],
+    inside: &mut [bool; 16],
+) -> bool
+    requires { ⌜ (lanes ≤ 16) × (length (now words) ≡ 16) × (length (now inside) ≡ 16) ⌝ }
+    ensures { λ r. ⌜ (length (now (words .exit)) ≡ 16) × (length (now (inside .exit)) ≡ 16) ⌝ }
+    ensures { λ r. ⌜ Lanes 0 lanes (now (words .exit)) (λ k. cond (holds band (getD (now (value .entry)) k nan)) (band .color) (getD (now (words .entry)) k 0)) ⌝ }
+    ensures { λ r. ⌜ Lanes false lanes (now (inside .exit)) (λ k. getD (now (inside .entry)) k false || holds band (getD (now (value .entry)) k nan)) ⌝ }
+    ensures { λ r. ⌜ r ≡ allBelow lanes (λ k. getD (now (inside .entry)) k false || holds band (getD (now (value .entry)) k nan)) ⌝ }
+{
+    let mut all = true;
+    let mut i: usize = 0;
+    while i < lanes {
+        let held = band.holds(value[i]);
+        words[i] = pick(held, band.color, words[i]);
+        let entered = inside[i] | held;
+        inside[i] = entered;
+        all = all & entered;
+        i += 1;
+    }
+    all
+}
+
+// A chunk that no band finished takes the colours of the edges. The scan is that of the same bands and values.
+pub fn settled(
+    lanes: usize,
+    starts: &[f32; 64],
+    ends: &[f32; 64],
+    colors: &[u32; 64],
+    count: usize,
+    u: UnmappableColors,
+    value: [f32; 16],
+    scan: Scan,
+) -> [u32; 16]
+    requires { ⌜ (lanes ≤ 16) × (count ≤ 64) × Scanned lanes (packed (now starts) (now ends) (now colors) count) (u .nodata) value scan ⌝ }
+    ensures { λ r. ⌜ take lanes r ≡ laneColors (packed (now (starts .entry)) (now (ends .entry)) (now (colors .entry)) count) u (take lanes value) ⌝ }
+{
+    let result = scan.colors;
+    if scan.finished {
+        return result;
+    }
+    if count == 0 {
+        return result;
     }
     let first = band_at(starts, ends, colors, 0);
     let last = band_at(starts, ends, colors, count - 1);
@@ -211,20 +309,6 @@ fn lane_edge_colors(
     result
 }
 
-// Whether each lane has a 1.
-fn all_inside(lanes: usize, inside: [u32; 16]) -> bool
-    requires { ⌜ lanes ≤ 16 ⌝ }
-    ensures { λ r. ⌜ r ≡ allBelow lanes (λ k. eqb (getD inside k 0) 1) ⌝ }
-{
-    let mut all = true;
-    let mut i: usize = 0;
-    while i < lanes {
-        all = all & (inside[i] == 1);
-        i += 1;
-    }
-    all
-}
-
 // ---- what both rules use
 
 fn band_at(starts: &[f32; 64], ends: &[f32; 64], colors: &[u32; 64], i: usize) -> LegendBand
@@ -236,26 +320,6 @@ fn band_at(starts: &[f32; 64], ends: &[f32; 64], colors: &[u32; 64], i: usize) -
         end: ends[i],
         color: colors[i],
     }
-}
-
-// A word in the lanes whose values a band holds.
-fn overwritten(
-    lanes: usize,
-    band: LegendBand,
-    word: u32,
-    value: [f32; 16],
-    words: [u32; 16],
-) -> [u32; 16]
-    requires { ⌜ lanes ≤ 16 ⌝ }
-    ensures { λ r. ⌜ Lanes 0 lanes r (λ k. cond (holds band (getD value k nan)) word (getD words k 0)) ⌝ }
-{
-    let mut result = [0u32; 16];
-    let mut i: usize = 0;
-    while i < lanes {
-        result[i] = pick(band.holds(value[i]), word, words[i]);
-        i += 1;
-    }
-    result
 }
 
 // The size of the difference is below the tolerance where the difference and its negative are.

@@ -1,30 +1,18 @@
-use Rattle.bands.proofs.Forms.{first-at, first-end}
-use Rattle.lists.specs.Lanes.{Lanes}
-use mathlib.Core.Path.{ap₂}
-use Rattle.bands.specs.declared.LegendBand.{LegendBand}
-use borrow.Author.Needs.{needs}
+-- `first_colors` meets its contract: the invariant says that each place has the colour of the first band from i on. Assumes nothing.
+use Prim.Native.Nat.{ℕ, _-_, _≤_}
+use mathlib.Core.Path.{_≡_, sym, ap, _∙_}
+use mathlib.Core.Bool.{cond}
 use native.Mathlib.Omega.{arith}
-use Prim.Native.Nat.{ℕ, _+_, _*_, _-_, _/_, _%_, _^_, _<_, _≤_}
-use mathlib.Core.Path.{_≡_, sym, subst, refl, ap, _∙_}
-use lib.ListN.{length, getD}
-use Rattle.lists.proofs.Filling.{Filling, filling-start, filling-turn, filling-end}
-use lib.Ieee.{nan, binary32, sub, neg, lt}
-use mathlib.Core.Bool.{Bool, cond, _&&_}
-use lib.Dec.{eqb}
-use lib.ListN.{take, drop}
+use lib.ListN.{getD, drop}
+use lib.Ieee.{nan}
+use borrow.Author.Needs.{needs}
+use Rattle.lists.specs.Lanes.{Lanes}
 use Rattle.bands.specs.Band.{holds}
-use Rattle.bands.specs.Packed.{bandAt, packed}
-use Rattle.bands.specs.PlainRule.{plainColor}
-use Rattle.bands.specs.LaneRule.{laneColors}
-use Rattle.bands.specs.Parts.{firstColor, edgeColor, laneEdgeColor, allBelow}
-use Rattle.bands.proofs.Edges.{within-is}
-use Rattle.bands.proofs.Forms.{edge-chain, drop-band, drop-end, plain-packed}
+use Rattle.bands.specs.Packed.{packed}
+use Rattle.bands.specs.Parts.{firstColor}
+use Rattle.bands.proofs.Forms.{first-at, first-end}
 use Rattle.bands.proofs.first_colors.Statement.{statement}
 use Rattle.bands.proofs.first_colors.Tie as tie
-use Rattle.bands.proofs.first_colors.Reads as reads
-use Rattle.bands.proofs.first_colors.Lts as lts
-use Rattle.bands.proofs.band_at.Reads as band-at-reads
-use Rattle.bands.proofs.overwritten.Reads as overwritten-reads
 
 abbrev Inv-loop : tie.InvT-loop
 Inv-loop starts ends colors count value result₀ i₀ result i = (i ≤ count) × Lanes 0 16 result (λ k. firstColor (drop i (packed starts ends colors count)) (getD value k nan) (getD result₀ k 0))
@@ -32,33 +20,26 @@ Inv-loop starts ends colors count value result₀ i₀ result i = (i ≤ count) 
 abbrev μ-loop : tie.MeasureT-loop
 μ-loop starts ends colors count value result₀ i₀ result i = i
 
--- src/lib.rt:105:5
 loop-holds : tie.Need-loop-holds Inv-loop μ-loop
-loop-holds c = (omega arith, λ k q. sym (first-end (c .args .starts .now) (c .args .ends .now) (c .args .colors .now) (c .args .count) (c .args .count) (getD (c .args .value) k nan) (getD (c .args .otherwise) k 0) (omega arith)))
+loop-holds c = let a = c .args in (omega arith, λ k q. sym (first-end (a .starts .now) (a .ends .now) (a .colors .now) (a .count) (a .count) (getD (a .value) k nan) (getD (a .otherwise) k 0) (omega arith)))
 
--- src/lib.rt:106:9
 sub-i : tie.Need-sub-i Inv-loop μ-loop
 sub-i c = search needs
 
--- src/lib.rt:107:13
 band-at-requires : tie.Need-band-at-requires Inv-loop μ-loop
 band-at-requires c κs = search needs
 
--- src/lib.rt:108:13
 overwritten-requires : tie.Need-overwritten-requires Inv-loop μ-loop
 overwritten-requires c κs = search needs
 
--- src/lib.rt:105:5
 loop-less : tie.Need-loop-less Inv-loop μ-loop
 loop-less c = search needs
 
--- src/lib.rt:105:5
 loop-again : tie.Need-loop-again Inv-loop μ-loop
-loop-again c = (omega arith, λ k q. c .overwritten .ensures k q ∙ ap (λ (w : ℕ). cond (holds (c .before .band-at .result) (getD (c .before .before .before .before .args .value) k nan)) (c .before .band-at .result .color) w) (c .before .before .before .loop .inv .1 k q) ∙ sym (first-at (c .before .before .before .before .args .starts .now) (c .before .before .before .before .args .ends .now) (c .before .before .before .before .args .colors .now) (c .before .before .before .before .args .count) (c .before .before .before .loop .i - 1) (getD (c .before .before .before .before .args .value) k nan) (getD (c .before .before .before .before .args .otherwise) k 0) (c .before .before .before .loop .i) (omega arith) (omega arith) (c .before .band-at .ensures)))
+loop-again c = let a = c .before .before .before .before .args in let l = c .before .before .before .loop in let b = c .before .band-at .result in (omega arith, λ k q. c .overwritten .ensures k q ∙ ap (cond (holds b (getD (a .value) k nan)) (b .color)) (l .inv .1 k q) ∙ sym (first-at (a .starts .now) (a .ends .now) (a .colors .now) (a .count) (l .i - 1) (getD (a .value) k nan) (getD (a .otherwise) k 0) (l .i) (omega arith) (omega arith) (c .before .band-at .ensures)))
 
--- src/lib.rt:92:1
 returns : tie.Need-returns Inv-loop μ-loop
-returns c = λ k q. let e : c .before .loop .i ≡ 0 = omega arith in c .before .loop .inv .1 k q ∙ ap (λ (j : ℕ). firstColor (drop j (packed (c .before .before .args .starts .now) (c .before .before .args .ends .now) (c .before .before .args .colors .now) (c .before .before .args .count))) (getD (c .before .before .args .value) k nan) (getD (c .before .before .args .otherwise) k 0)) e
+returns c = let a = c .before .before .args in let l = c .before .loop in λ k q. let e : l .i ≡ 0 = omega arith in l .inv .1 k q ∙ ap (λ (j : ℕ). firstColor (drop j (packed (a .starts .now) (a .ends .now) (a .colors .now) (a .count))) (getD (a .value) k nan) (getD (a .otherwise) k 0)) e
 
 pub first-colors-spec : {M : Type 1} → statement M
 first-colors-spec =
