@@ -2,5 +2,5 @@
 pub mod Rules
 pub mod FirstKey
 pub mod Ascent
-mod TableTest
+pub mod TableTest
 mod Search

@@ -43,7 +43,7 @@ pub fn table_colors_simd(
 }
 
 // Each lane's word, the first for a sample outside.
-fn gather(lanes: usize, lookup: &[u32; 513], size: usize, value: [f32; 16]) -> [u32; 16]
+pub fn gather(lanes: usize, lookup: &[u32; 513], size: usize, value: [f32; 16]) -> [u32; 16]
     requires { ⌜ (lanes ≤ 16) × (size ≤ 513) ⌝ }
     ensures { λ r. ⌜ Lanes 0 lanes r (λ k. getD (now (lookup .entry)) (floorOf (kept size (getD value k nan))) 0) ⌝ }
 {
@@ -58,7 +58,13 @@ fn gather(lanes: usize, lookup: &[u32; 513], size: usize, value: [f32; 16]) -> [
 }
 
 // The words of the samples in the table, nodata for others.
-fn known(lanes: usize, size: usize, nodata: u32, value: [f32; 16], words: [u32; 16]) -> [u32; 16]
+pub fn known(
+    lanes: usize,
+    size: usize,
+    nodata: u32,
+    value: [f32; 16],
+    words: [u32; 16],
+) -> [u32; 16]
     requires { ⌜ (lanes ≤ 16) × (size ≤ 513) ⌝ }
     ensures { λ r. ⌜ Lanes 0 lanes r (λ k. cond (inTable size (getD value k nan)) (getD words k 0) nodata) ⌝ }
 {

@@ -1,0 +1,206 @@
+// Painting f32 samples by a banded legend, plainly and in lanes (docs/RULES.md, "Painting"). The refusals are the caller's, who has
+// seen to it that at most 64 bands are counted.
+use colormapper::Exclusions;
+use colormapper::UnmappableColors;
+ghost use mathlib.Core.Path.{_≡_};
+ghost use mathlib.Core.Bool.{true};
+ghost use mathlib.Core.List.{map, _++_};
+ghost use Prim.Native.Nat.{_+_, _≤_};
+ghost use lib.ListN.{length, take, drop};
+ghost use Rattle.bands.specs.Packed.{packed};
+ghost use Rattle.painting.specs.Painted.{plainPainted, lanePainted, chunkOver};
+ghost use Rattle.painting.specs.Contracts.{laneCount};
+ghost use Rattle.paint_banded.specs.Rules.{plainSample, laneChunk};
+
+// What a banded legend is painted by, beside its bands.
+pub struct BandedPaint {
+    pub count: usize,
+    pub unmappable: UnmappableColors,
+    pub exclusions: Exclusions,
+}
+
+// ---- one sample, and the words of a chunk at each lane count, in straight lines over the literal
+
+fn sample(
+    starts: &[f32; 64],
+    ends: &[f32; 64],
+    colors: &[u32; 64],
+    p: BandedPaint,
+    value: f32,
+) -> u32
+    requires { ⌜ p .count ≤ 64 ⌝ }
+    ensures { λ r. ⌜ r ≡ plainSample (packed (now (starts .entry)) (now (ends .entry)) (now (colors .entry)) (p .count)) p value ⌝ }
+{
+    let color = bands::color_for_numeric_value(starts, ends, colors, p.count, p.unmappable, value);
+    p.exclusions.masked(value, p.unmappable.nodata, color)
+}
+
+fn words_plain(
+    starts: &[f32; 64],
+    ends: &[f32; 64],
+    colors: &[u32; 64],
+    p: BandedPaint,
+    v: [f32; 16],
+) -> [u32; 16]
+    requires { ⌜ p .count ≤ 64 ⌝ }
+    ensures { λ d. ⌜ take 16 d ≡ map (plainSample (packed (now (starts .entry)) (now (ends .entry)) (now (colors .entry)) (p .count)) p) (take 16 v) ⌝ }
+{
+    let c = bands::colors_for_numeric_values(starts, ends, colors, p.count, p.unmappable, v);
+    p.exclusions.masked_simd(16, v, p.unmappable.nodata, c)
+}
+
+fn words4(
+    starts: &[f32; 64],
+    ends: &[f32; 64],
+    colors: &[u32; 64],
+    p: BandedPaint,
+    v: [f32; 16],
+) -> [u32; 16]
+    requires { ⌜ p .count ≤ 64 ⌝ }
+    ensures { λ d. ⌜ take 4 d ≡ laneChunk (packed (now (starts .entry)) (now (ends .entry)) (now (colors .entry)) (p .count)) p (take 4 v) ⌝ }
+{
+    let scan = bands::scanned(4, starts, ends, colors, p.count, p.unmappable.nodata, v);
+    let c = bands::settled(4, starts, ends, colors, p.count, p.unmappable, v, scan);
+    p.exclusions.masked_simd(4, v, p.unmappable.nodata, c)
+}
+
+fn words8(
+    starts: &[f32; 64],
+    ends: &[f32; 64],
+    colors: &[u32; 64],
+    p: BandedPaint,
+    v: [f32; 16],
+) -> [u32; 16]
+    requires { ⌜ p .count ≤ 64 ⌝ }
+    ensures { λ d. ⌜ take 8 d ≡ laneChunk (packed (now (starts .entry)) (now (ends .entry)) (now (colors .entry)) (p .count)) p (take 8 v) ⌝ }
+{
+    let scan = bands::scanned(8, starts, ends, colors, p.count, p.unmappable.nodata, v);
+    let c = bands::settled(8, starts, ends, colors, p.count, p.unmappable, v, scan);
+    p.exclusions.masked_simd(8, v, p.unmappable.nodata, c)
+}
+
+fn words16(
+    starts: &[f32; 64],
+    ends: &[f32; 64],
+    colors: &[u32; 64],
+    p: BandedPaint,
+    v: [f32; 16],
+) -> [u32; 16]
+    requires { ⌜ p .count ≤ 64 ⌝ }
+    ensures { λ d. ⌜ take 16 d ≡ laneChunk (packed (now (starts .entry)) (now (ends .entry)) (now (colors .entry)) (p .count)) p (take 16 v) ⌝ }
+{
+    let scan = bands::scanned(16, starts, ends, colors, p.count, p.unmappable.nodata, v);
+    let c = bands::settled(16, starts, ends, colors, p.count, p.unmappable, v, scan);
+    p.exclusions.masked_simd(16, v, p.unmappable.nodata, c)
+}
+
+// ---- one chunk of a raster
+
+fn block(
+    starts: &[f32; 64],
+    ends: &[f32; 64],
+    colors: &[u32; 64],
+    p: BandedPaint,
+    src: &[f32],
+    base: usize,
+    out: &mut [u32],
+)
+    requires { ⌜ (p .count ≤ 64) × (base + 16 ≤ length (now src)) × (base + 16 ≤ length (now out)) ⌝ }
+    ensures { λ _. ⌜ now (out .exit) ≡ chunkOver (map (plainSample (packed (now (starts .entry)) (now (ends .entry)) (now (colors .entry)) (p .count)) p)) (now (src .entry)) (now (out .entry)) base 16 ⌝ }
+{
+    let v = painting::load(16, src, base);
+    painting::store(16, words_plain(starts, ends, colors, p, v), base, out);
+}
+
+fn chunk(
+    starts: &[f32; 64],
+    ends: &[f32; 64],
+    colors: &[u32; 64],
+    p: BandedPaint,
+    l: usize,
+    src: &[f32],
+    base: usize,
+    out: &mut [u32],
+)
+    requires { ⌜ (p .count ≤ 64) × (laneCount l ≡ true) × (base + l ≤ length (now src)) × (base + l ≤ length (now out)) ⌝ }
+    ensures { λ _. ⌜ now (out .exit) ≡ chunkOver (laneChunk (packed (now (starts .entry)) (now (ends .entry)) (now (colors .entry)) (p .count)) p) (now (src .entry)) (now (out .entry)) base l ⌝ }
+{
+    if l == 4 {
+        let v = painting::load(4, src, base);
+        painting::store(4, words4(starts, ends, colors, p, v), base, out);
+        return;
+    }
+    if l == 8 {
+        let v = painting::load(8, src, base);
+        painting::store(8, words8(starts, ends, colors, p, v), base, out);
+        return;
+    }
+    let v = painting::load(16, src, base);
+    painting::store(16, words16(starts, ends, colors, p, v), base, out);
+}
+
+// The samples from base on, one by one.
+fn rest(
+    starts: &[f32; 64],
+    ends: &[f32; 64],
+    colors: &[u32; 64],
+    p: BandedPaint,
+    src: &[f32],
+    base: usize,
+    out: &mut [u32],
+)
+    requires { ⌜ (p .count ≤ 64) × (base ≤ length (now src)) × (length (now out) ≡ length (now src)) ⌝ }
+    ensures { λ _. ⌜ now (out .exit) ≡ take base (now (out .entry)) ++ map (plainSample (packed (now (starts .entry)) (now (ends .entry)) (now (colors .entry)) (p .count)) p) (drop base (now (src .entry))) ⌝ }
+{
+    let n = src.len();
+    let mut i = base;
+    while i < n {
+        out[i] = sample(starts, ends, colors, p, src[i]);
+        i += 1;
+    }
+}
+
+// ---- a whole raster, with an output of its length
+
+// Plain painting, in blocks of sixteen.
+pub fn paint(
+    starts: &[f32; 64],
+    ends: &[f32; 64],
+    colors: &[u32; 64],
+    p: BandedPaint,
+    src: &[f32],
+    out: &mut [u32],
+)
+    requires { ⌜ (p .count ≤ 64) × (length (now out) ≡ length (now src)) ⌝ }
+    ensures { λ _. ⌜ now (out .exit) ≡ plainPainted (plainSample (packed (now (starts .entry)) (now (ends .entry)) (now (colors .entry)) (p .count)) p) (now (src .entry)) ⌝ }
+{
+    let n = src.len();
+    let mut base: usize = 0;
+    while 16 <= n - base {
+        block(starts, ends, colors, p, src, base, out);
+        base += 16;
+    }
+    rest(starts, ends, colors, p, src, base, out);
+}
+
+// Lane painting: whole chunks of l samples, then the rest.
+pub fn paint_simd(
+    starts: &[f32; 64],
+    ends: &[f32; 64],
+    colors: &[u32; 64],
+    p: BandedPaint,
+    l: usize,
+    src: &[f32],
+    out: &mut [u32],
+)
+    requires { ⌜ (p .count ≤ 64) × (laneCount l ≡ true) × (length (now out) ≡ length (now src)) ⌝ }
+    ensures { λ _. ⌜ now (out .exit) ≡ lanePainted l (laneChunk (packed (now (starts .entry)) (now (ends .entry)) (now (colors .entry)) (p .count)) p) (plainSample (packed (now (starts .entry)) (now (ends .entry)) (now (colors .entry)) (p .count)) p) (now (src .entry)) ⌝ }
+{
+    let n = src.len();
+    let mut base: usize = 0;
+    while l <= n - base {
+        chunk(starts, ends, colors, p, l, src, base, out);
+        base += l;
+    }
+    rest(starts, ends, colors, p, src, base, out);
+}
