@@ -15,7 +15,7 @@ module _ (z : LegendBand) (other : ℕ) where
   first-at (suc n) [] h g = absurd (omega arith)
   first-at (suc n) (x ∷ xs) h g = refl
 
-  last-of : (x : LegendBand) (xs : List LegendBand) → lastOf x xs ≡ getD (x ∷ xs) (length xs) z
+  pub last-of : (x : LegendBand) (xs : List LegendBand) → lastOf x xs ≡ getD (x ∷ xs) (length xs) z
   unfolding lastOf
   last-of x [] = refl
   last-of x (y ∷ xs) = last-of y xs

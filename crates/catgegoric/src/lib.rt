@@ -249,7 +249,7 @@ fn create(keys: &[i64; 256], colors: &[u32; 256], count: usize) -> MadeCategoric
     }
 }
 
-fn keys_refusal(keys: &[i64; 256], count: usize) -> Answer
+pub fn keys_refusal(keys: &[i64; 256], count: usize) -> Answer
     requires { ⌜ (count ≤ 256) × (length (now keys) ≡ 256) ⌝ }
     ensures { λ r. ⌜ r ≡ keysRefusal (take count (now (keys .entry))) ⌝ }
 {
@@ -401,7 +401,7 @@ fn create_fast_lookup(keys: &[i64; 256], colors: &[u32; 256], count: usize) -> [
     lookup
 }
 
-fn smallest(keys: &[i64; 256], count: usize) -> i64
+pub fn smallest(keys: &[i64; 256], count: usize) -> i64
     requires { ⌜ (0 < count) × (count ≤ 256) × (length (now keys) ≡ 256) ⌝ }
     ensures { λ r. ⌜ r ≡ smallest (take count (now (keys .entry))) ⌝ }
 {
@@ -416,7 +416,7 @@ fn smallest(keys: &[i64; 256], count: usize) -> i64
     least
 }
 
-fn largest(keys: &[i64; 256], count: usize) -> i64
+pub fn largest(keys: &[i64; 256], count: usize) -> i64
     requires { ⌜ (0 < count) × (count ≤ 256) × (length (now keys) ≡ 256) ⌝ }
     ensures { λ r. ⌜ r ≡ largest (take count (now (keys .entry))) ⌝ }
 {

@@ -1,0 +1,4 @@
+pub mod Record
+pub mod Building
+pub mod Painters
+pub mod ValueRanges
