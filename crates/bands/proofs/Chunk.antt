@@ -31,7 +31,7 @@ below-first (suc n) f = regroup (f 0) (allBelow n (λ k. f (suc k))) (f (suc n))
     regroup true b c = refl
     regroup false b c = refl
 
-below-same : (n : ℕ) (f g : ℕ → Bool) → ((k : ℕ) → k < n → f k ≡ g k) → allBelow n f ≡ allBelow n g
+pub below-same : (n : ℕ) (f g : ℕ → Bool) → ((k : ℕ) → k < n → f k ≡ g k) → allBelow n f ≡ allBelow n g
 unfolding allBelow
 below-same zero f g h = refl
 below-same (suc n) f g h = ap₂ (λ (a b : Bool). a && b) (below-same n f g (λ k q. h k (omega arith))) (h n (omega arith))
@@ -85,7 +85,7 @@ laneAt value inside color k = laneOf (getD value k nan) (getD inside k false) (g
 abbrev lanesOf : ℕ → (value : List Float) (inside : List Bool) (color : List ℕ) → List Lane
 lanesOf n value inside color = tabulate n (laneAt value inside color)
 
-all-inside : (n : ℕ) (f : ℕ → Lane) → allInside (tabulate n f) ≡ allBelow n (λ k. f k .inside)
+pub all-inside : (n : ℕ) (f : ℕ → Lane) → allInside (tabulate n f) ≡ allBelow n (λ k. f k .inside)
 unfolding tabulate
 all-inside zero f = unfold allBelow in refl
 all-inside (suc n) f = ap (λ (b : Bool). f 0 .inside && b) (all-inside n (λ k. f (suc k))) ∙ below-first n (λ k. f k .inside)

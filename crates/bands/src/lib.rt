@@ -139,7 +139,7 @@ fn edge_color(first: LegendBand, last: LegendBand, u: UnmappableColors, value: f
     pick(is_within(first.start, value), first.color, z)
 }
 
-fn edge_colors(
+pub fn edge_colors(
     first: LegendBand,
     last: LegendBand,
     u: UnmappableColors,
@@ -311,7 +311,7 @@ fn lane_edge_colors(
 
 // ---- what both rules use
 
-fn band_at(starts: &[f32; 64], ends: &[f32; 64], colors: &[u32; 64], i: usize) -> LegendBand
+pub fn band_at(starts: &[f32; 64], ends: &[f32; 64], colors: &[u32; 64], i: usize) -> LegendBand
     requires { ⌜ i < 64 ⌝ }
     ensures { λ r. ⌜ r ≡ bandAt (now (starts .entry)) (now (ends .entry)) (now (colors .entry)) i ⌝ }
 {

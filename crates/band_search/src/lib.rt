@@ -1,0 +1,134 @@
+// Bands that ascend without overlap: at most one of them holds a sample, and its place is found by counting (docs/RULES.md,
+// "Banded"). A list of bands comes as in `bands`, with a count of at most 64.
+use colormapper::UnmappableColors;
+ghost use mathlib.Core.Path.{_≡_};
+ghost use mathlib.Core.Bool.{true, cond};
+ghost use Prim.Native.Nat.{_+_, _≤_, _<_};
+ghost use lib.Ieee.{nan, le};
+ghost use lib.ListN.{getD};
+ghost use Rattle.lists.specs.Lanes.{Lanes};
+ghost use Rattle.bands.specs.Packed.{packed};
+ghost use Rattle.bands.specs.PlainRule.{plainColor};
+ghost use Rattle.bands.specs.Parts.{allBelow};
+ghost use Rattle.band_search.specs.Apart.{apart};
+ghost use Rattle.band_search.specs.Place.{heldAt, colorAt, InArrays, Placed};
+
+// Whether no counted band starts below the start or the end of the one before it: asked once a painting.
+pub fn apart(starts: &[f32; 64], ends: &[f32; 64], count: usize) -> bool
+    requires { ⌜ count ≤ 64 ⌝ }
+    ensures { λ r. ⌜ r ≡ apart (now (starts .entry)) (now (ends .entry)) count ⌝ }
+{
+    let mut result = true;
+    let mut i: usize = 1;
+    while i < count {
+        let before = i - 1;
+        result = result & (starts[before] <= starts[i]) & (ends[before] <= starts[i]);
+        i += 1;
+    }
+    result
+}
+
+// The colours of sixteen samples at once, by the plain rule.
+pub fn colors_for_numeric_values(
+    starts: &[f32; 64],
+    ends: &[f32; 64],
+    colors: &[u32; 64],
+    count: usize,
+    u: UnmappableColors,
+    value: [f32; 16],
+) -> [u32; 16]
+    requires { ⌜ (count ≤ 64) × (apart (now starts) (now ends) count ≡ true) ⌝ }
+    ensures { λ r. ⌜ Lanes 0 16 r (λ k. plainColor (packed (now (starts .entry)) (now (ends .entry)) (now (colors .entry)) count) u (getD value k nan)) ⌝ }
+{
+    if count == 0 {
+        return [u.nodata; 16];
+    }
+    let first = bands::band_at(starts, ends, colors, 0);
+    let last = bands::band_at(starts, ends, colors, count - 1);
+    let edged = bands::edge_colors(first, last, u, value);
+    let places = places_of(16, starts, count, value);
+    colors_at(16, starts, ends, colors, places, value, edged)
+}
+
+// ---- the phases, for a lane count that is a literal of the caller's: so they are vectorised
+
+// The place of the one band that can hold each lane's sample: a band that starts above the sample does not count.
+pub fn places_of(lanes: usize, starts: &[f32; 64], count: usize, value: [f32; 16]) -> [u32; 16]
+    requires { ⌜ (lanes ≤ 16) × (count ≤ 64) ⌝ }
+    ensures { λ r. ⌜ Placed lanes (now (starts .entry)) count value r ⌝ }
+{
+    let mut result = [0u32; 16];
+    let mut i: usize = 1;
+    while i < count {
+        let next = moved(lanes, starts[i], value, result);
+        result = next;
+        i += 1;
+    }
+    result
+}
+
+// Each lane's place moved on where a start is not above its sample.
+fn moved(lanes: usize, start: f32, value: [f32; 16], places: [u32; 16]) -> [u32; 16]
+    requires { ⌜ (lanes ≤ 16) × InArrays lanes places ⌝ }
+    ensures { λ r. ⌜ Lanes 0 lanes r (λ k. getD places k 0 + cond (le start (getD value k nan)) 1 0) ⌝ }
+{
+    let mut result = [0u32; 16];
+    let mut i: usize = 0;
+    while i < lanes {
+        result[i] = places[i] + ((start <= value[i]) as u32);
+        i += 1;
+    }
+    result
+}
+
+// The colour of the band at each lane's place where it holds the sample, else another.
+pub fn colors_at(
+    lanes: usize,
+    starts: &[f32; 64],
+    ends: &[f32; 64],
+    colors: &[u32; 64],
+    places: [u32; 16],
+    value: [f32; 16],
+    otherwise: [u32; 16],
+) -> [u32; 16]
+    requires { ⌜ (lanes ≤ 16) × InArrays lanes places ⌝ }
+    ensures { λ r. ⌜ Lanes 0 lanes r (λ k. colorAt (now (starts .entry)) (now (ends .entry)) (now (colors .entry)) (getD places k 0) (getD value k nan) (getD otherwise k 0)) ⌝ }
+{
+    let mut result = [0u32; 16];
+    let mut i: usize = 0;
+    while i < lanes {
+        let place = places[i] as usize;
+        let held = (starts[place] <= value[i]) & (value[i] < ends[place]);
+        result[i] = pick(held, colors[place], otherwise[i]);
+        i += 1;
+    }
+    result
+}
+
+// Whether each lane's sample lies in the band at its place.
+pub fn all_held(
+    lanes: usize,
+    starts: &[f32; 64],
+    ends: &[f32; 64],
+    places: [u32; 16],
+    value: [f32; 16],
+) -> bool
+    requires { ⌜ (lanes ≤ 16) × InArrays lanes places ⌝ }
+    ensures { λ r. ⌜ r ≡ allBelow lanes (λ k. heldAt (now (starts .entry)) (now (ends .entry)) (getD places k 0) (getD value k nan)) ⌝ }
+{
+    let mut all = true;
+    let mut i: usize = 0;
+    while i < lanes {
+        let place = places[i] as usize;
+        all = all & (starts[place] <= value[i]) & (value[i] < ends[place]);
+        i += 1;
+    }
+    all
+}
+
+// One of two words by a flag: a select, and no branch in the loops.
+fn pick(flag: bool, x: u32, y: u32) -> u32
+    ensures { λ r. ⌜ r ≡ cond flag x y ⌝ }
+{
+    if flag { x } else { y }
+}
