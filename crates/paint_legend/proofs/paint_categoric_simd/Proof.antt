@@ -1,0 +1,42 @@
+-- `paint_categoric_simd` meets its contract. Assumes nothing.
+use mathlib.Core.Path.{ap, ap₂, _∙_}
+use native.Mathlib.Omega.{arith}
+use Rattle.painting.specs.Painted.{lanePainted}
+use Rattle.paint_categoric.specs.Rules.{tableSample, tableChunk}
+use Rattle.paint_legend.proofs.Same.{table-sample, table-chunk, with-none, with-some}
+use borrow.Author.Needs.{needs}
+use Rattle.paint_legend.proofs.paint_categoric_simd.Statement.{statement}
+use Rattle.paint_legend.proofs.paint_categoric_simd.Tie as tie
+
+paint-categoric-requires : tie.Need-paint-categoric-requires
+paint-categoric-requires c κs = search needs
+
+same-length : tie.Need-same-length
+same-length c = search needs
+
+returns : tie.Need-returns
+returns c = let a = c .before .before .before .before .before .before .before .args in c .before .before .paint-categoric .ensures ∙ with-none (a .categoric .«lookup_count») _ _ (c .before .before .before .before .if1 .taken)
+
+categoric-paint-requires : tie.Need-categoric-paint-requires
+categoric-paint-requires c κs = search needs
+
+paint-by-table-simd-requires : tie.Need-paint-by-table-simd-requires
+paint-by-table-simd-requires c κs = search needs
+
+same-length-2 : tie.Need-same-length-2
+same-length-2 c = search needs
+
+returns-2 : tie.Need-returns-2
+returns-2 c = let a = c .before .before .before .before .before .before .before .before .before .before .args in c .before .before .paint-by-table-simd .ensures ∙ ap (λ p. lanePainted (a .l) (tableChunk (a .categoric .lookup) (a .categoric .«lookup_count») p) (tableSample (a .categoric .lookup) (a .categoric .«lookup_count») p) (a .src .now)) (c .before .before .before .before .before .before .categoric-paint .ensures) ∙ ap₂ (λ k f. lanePainted (a .l) k f (a .src .now)) (table-chunk (a .config) (a .nodata) (a .categoric)) (table-sample (a .config) (a .nodata) (a .categoric) (omega (arith, c .before .before .before .before .before .before .before .if1 .left))) ∙ with-some (a .categoric .«lookup_count») _ _ (omega (arith, c .before .before .before .before .before .before .before .if1 .left))
+
+pub paint-categoric-simd-spec : {M : Type 1} → statement M
+paint-categoric-simd-spec =
+    tie.close
+    (tie.spec
+    paint-categoric-requires
+    same-length
+    returns
+    categoric-paint-requires
+    paint-by-table-simd-requires
+    same-length-2
+    returns-2)
