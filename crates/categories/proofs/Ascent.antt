@@ -1,13 +1,13 @@
 -- Keys ascend where each is below the next; then each is below all after it. Assumes nothing.
 use mathlib.Core.Path.{_≡_, refl, sym, subst}
-use mathlib.Core.Bool.{true, _&&_}
+use mathlib.Core.Bool.{true, not, _&&_}
 use mathlib.Core.List.{List}
 use mathlib.Core.Logic.{⊎-elim}
 use Prim.Native.Nat.{ℕ, zero, suc, _+_, _-_, _≤_, _<_}
 use native.Mathlib.Omega.{arith}
 use native.Mathlib.Nat.{eq-or-lt-of-le}
 use native.Mathlib.Numerals.{add-one}
-use lib.Dec.{T, le→leb, ltb→lt}
+use lib.Dec.{T, le→leb, ltb→lt, lt→ltb, nleb→lt}
 use lib.Ieee.Fits.{and-l, and-r}
 use lib.IntN.{ℤ, pos, negsuc}
 use lib.ListN.{getD}
@@ -26,6 +26,12 @@ lt-le a b c h k = <ℤ-≤ℤ-trans (ltZ-yes {a = a} {b = b} h) (leZ-yes {a = b}
 
 pub lt-lt : (a b c : ℤ) → T (ltZ a b) → T (ltZ b c) → T (ltZ a c)
 lt-lt a b c h k = lt-le a b c h (lt→le b c k)
+
+pub not-le : (a b : ℤ) → T (not (leZ a b)) → T (ltZ b a)
+not-le (pos a) (pos b) t = lt→ltb b a (nleb→lt a b t)
+not-le (pos a) (negsuc b) t = tt
+not-le (negsuc a) (pos b) t = t
+not-le (negsuc a) (negsuc b) t = lt→ltb a b (nleb→lt b a t)
 
 pub lt-apart : (a b : ℤ) → T (ltZ a b) → a ≡ b → ⊥
 lt-apart a b h e = <ℤ-irrefl (ltZ-yes {a = b} {b = b} (subst (λ (x : ℤ). T (ltZ x b)) e h))

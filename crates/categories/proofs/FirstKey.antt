@@ -1,19 +1,22 @@
 -- What makes an entry the first with a key: its key is the one sought, and none before it is. Assumes nothing.
-use mathlib.Core.Path.{_≡_, refl, ap, _∙_, subst}
-use mathlib.Core.Bool.{true, false}
+use mathlib.Core.Path.{_≡_, refl, sym, ap, _∙_, subst}
+use mathlib.Core.Bool.{Bool, true, false, not}
 use mathlib.Core.List.{List}
 use mathlib.Core.Logic.{⊎-elim}
 use Prim.Native.Nat.{ℕ, zero, suc, _+_, _≤_, _<_}
 use native.Mathlib.Nat.{eq-or-lt-of-le}
 use native.Mathlib.Omega.{arith}
-use lib.Dec.{T, not-T, eqb→eq, eqb-refl}
+use lib.Dec.{T, T-not, not-T, eqb, eqb→eq, eqb-refl}
 use lib.Ieee.Bits.{is-true, is-false}
 use lib.IntN.{ℤ, pos, negsuc}
 use lib.ListN.{getD}
+use mir.Syntax.{Width}
+use mir.Val.{SFits, ofZ, toZ}
+use mir.ValLaws.{toZ-ofZ}
 use Rattle.categories.specs.Rule.{category, unknown, eqZ, firstKey}
 
 -- ---- the same key
-eqZ→eq : (a b : ℤ) → T (eqZ a b) → a ≡ b
+pub eqZ→eq : (a b : ℤ) → T (eqZ a b) → a ≡ b
 eqZ→eq (pos a) (pos b) h = ap pos (eqb→eq a b h)
 eqZ→eq (pos a) (negsuc b) h = absurd h
 eqZ→eq (negsuc a) (pos b) h = absurd h
@@ -28,6 +31,17 @@ same-key a b e = is-true (eqZ a b) (subst (λ (x : ℤ). T (eqZ a x)) e (eqZ-ref
 
 pub other-key : (a b : ℤ) → (a ≡ b → ⊥) → eqZ a b ≡ false
 other-key a b n = is-false (eqZ a b) (not-T (eqZ a b) (λ t. n (eqZ→eq a b t)))
+
+-- by the bits
+pub same-bits : (w : Width) (a b : ℤ) → SFits w a → SFits w b → ofZ w a ≡ ofZ w b → a ≡ b
+same-bits w a b f g e = sym (toZ-ofZ w a f) ∙ ap (toZ w) e ∙ toZ-ofZ w b g
+
+pub by-bits : (w : Width) (a b : ℤ) → SFits w a → SFits w b → eqb (ofZ w a) (ofZ w b) ≡ eqZ a b
+by-bits w a b f g = go (eqb (ofZ w a) (ofZ w b)) (λ t. t) (λ t. t)
+  where
+    go : (t : Bool) → (T t → T (eqb (ofZ w a) (ofZ w b))) → (T (not t) → T (not (eqb (ofZ w a) (ofZ w b)))) → t ≡ eqZ a b
+    go true holds fails = sym (same-key a b (same-bits w a b f g (eqb→eq (ofZ w a) (ofZ w b) (holds tt))))
+    go false holds fails = sym (other-key a b (λ e. T-not (eqb (ofZ w a) (ofZ w b)) (fails tt) (subst (λ (x : ℤ). T (eqb (ofZ w a) (ofZ w x))) e (eqb-refl (ofZ w a)))))
 
 -- ---- of n entries from entry m on
 module _ (keys : List ℤ) (z : ℤ) where

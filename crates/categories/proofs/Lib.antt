@@ -2,5 +2,5 @@
 pub mod Rules
 pub mod FirstKey
 pub mod Ascent
-pub mod TableTest
-mod Search
+pub mod Phases
+mod TableTest

@@ -1,4 +1,3 @@
 pub mod Rule
 pub mod InTable
 pub mod Ascending
-pub mod Narrowing

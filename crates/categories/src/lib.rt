@@ -3,9 +3,9 @@
 // a size is at most 513 and a count at most 256.
 use cast::Truncated;
 ghost use mathlib.Core.Path.{_≡_};
-ghost use mathlib.Core.Bool.{true, cond};
+ghost use mathlib.Core.Bool.{cond};
 ghost use mathlib.Core.List.{[]};
-ghost use Prim.Native.Nat.{_*_, _≤_, _<_};
+ghost use Prim.Native.Nat.{_≤_, _<_};
 ghost use lib.Ieee.{nan};
 ghost use lib.ListN.{getD};
 ghost use Rattle.floats.specs.RampIndex.{floorOf};
@@ -13,7 +13,6 @@ ghost use Rattle.lists.specs.Lanes.{Lanes};
 ghost use Rattle.categories.specs.Rule.{firstKey, ruleColor, tableColor, keyColor};
 ghost use Rattle.categories.specs.InTable.{limit, inTable, kept};
 ghost use Rattle.categories.specs.Ascending.{ascends};
-ghost use Rattle.categories.specs.Narrowing.{Narrowed};
 
 // ---- with a table
 
@@ -27,20 +26,8 @@ pub fn table_color(lookup: &[u32; 513], size: usize, nodata: u32, value: f32) ->
     pick(in_table(size, value), lookup[index], nodata)
 }
 
-// The colours of a chunk's samples, by the same rule in each lane. The lane count is a literal of the caller's.
-pub fn table_colors_simd(
-    lanes: usize,
-    lookup: &[u32; 513],
-    size: usize,
-    nodata: u32,
-    value: [f32; 16],
-) -> [u32; 16]
-    requires { ⌜ (lanes ≤ 16) × (size ≤ 513) ⌝ }
-    ensures { λ r. ⌜ Lanes 0 lanes r (λ k. tableColor (now (lookup .entry)) size nodata (getD value k nan)) ⌝ }
-{
-    let words = gather(lanes, lookup, size, value);
-    known(lanes, size, nodata, value, words)
-}
+// A chunk's samples are looked up in two phases: `gather`, then `known` (proofs/Phases.antt). Painters call both with a
+// literal lane count.
 
 // Each lane's word, the first for a sample outside.
 pub fn gather(lanes: usize, lookup: &[u32; 513], size: usize, value: [f32; 16]) -> [u32; 16]
@@ -164,55 +151,4 @@ pub fn ascending(keys: &[i64; 256], count: usize) -> bool
         i += 1;
     }
     result
-}
-
-// The same colour as `key_color`'s, by halving: where the keys ascend.
-pub fn search_color(
-    keys: &[i64; 256],
-    colors: &[u32; 256],
-    count: usize,
-    nodata: u32,
-    value: f32,
-) -> u32
-    requires { ⌜ (count ≤ 256) × (ascends (now keys) count ≡ true) ⌝ }
-    ensures { λ r. ⌜ r ≡ keyColor (now (keys .entry)) (now (colors .entry)) count nodata value ⌝ }
-{
-    match cast::to_i64(value) {
-        Truncated::Whole(key) => found(keys, colors, count, nodata, key),
-        Truncated::Outside => nodata,
-    }
-}
-
-// The colour of the entry with a key among ascending ones.
-fn found(keys: &[i64; 256], colors: &[u32; 256], count: usize, nodata: u32, key: i64) -> u32
-    requires { ⌜ (count ≤ 256) × (ascends (now keys) count ≡ true) ⌝ }
-    ensures { λ r. ⌜ r ≡ ruleColor [] (now (colors .entry)) nodata (firstKey (now (keys .entry)) key 0 count) ⌝ }
-{
-    let place = place_of(keys, count, key);
-    let hit = (place < count) & (keys[place] == key);
-    pick(hit, colors[place], nodata)
-}
-
-// The place of the last counted key that is not above the one sought, or 0: eight steps for 256 places.
-fn place_of(keys: &[i64; 256], count: usize, key: i64) -> usize
-    requires { ⌜ (count ≤ 256) × (ascends (now keys) count ≡ true) ⌝ }
-    ensures { λ r. ⌜ Narrowed (now (keys .entry)) count key 1 r ⌝ }
-{
-    let a = halved(keys, count, key, 0, 128);
-    let b = halved(keys, count, key, a, 64);
-    let c = halved(keys, count, key, b, 32);
-    let d = halved(keys, count, key, c, 16);
-    let e = halved(keys, count, key, d, 8);
-    let f = halved(keys, count, key, e, 4);
-    let g = halved(keys, count, key, f, 2);
-    halved(keys, count, key, g, 1)
-}
-
-// The half in which the key can be. The flag is a factor: as an `if` it would be a branch that no processor foresees.
-fn halved(keys: &[i64; 256], count: usize, key: i64, place: usize, step: usize) -> usize
-    requires { ⌜ (count ≤ 256) × (ascends (now keys) count ≡ true) × (0 < step) × Narrowed (now keys) count key (step * 2) place ⌝ }
-    ensures { λ r. ⌜ Narrowed (now (keys .entry)) count key step r ⌝ }
-{
-    let at = place + step;
-    place + step * (((at < count) & (keys[at] <= key)) as usize)
 }

@@ -13,7 +13,7 @@ use Rattle.painting.proofs.Lists.{lanes-list}
 use Rattle.painting.proofs.Masking.{lanes-masked}
 use Rattle.categories.specs.Rule.{tableColor}
 use Rattle.categories.specs.InTable.{inTable, kept}
-use Rattle.categories.proofs.TableTest.{chosen}
+use Rattle.categories.proofs.Phases.{in-two-phases}
 use Rattle.paint_categoric.specs.declared.CategoricPaint.{CategoricPaint}
 use Rattle.paint_categoric.specs.Rules.{tableChunk}
 
@@ -25,6 +25,4 @@ pub tabled : (l : ℕ) (lookup : List ℕ) (size : ℕ) (p : CategoricPaint) (v 
 tabled l lookup size p v words colors d s m n o gathered known masks =
     let e = excluded (p .exclusions) in
     lanes-masked e (p .nodata) l d v colors o m n masks
-    ∙ ap (masked e (p .nodata) (take l v))
-    (lanes-list nan 0 (tableColor lookup size (p .nodata)) l colors v n m
-    (λ k h. known k h ∙ ap (λ (w : ℕ). cond (inTable size (getD v k nan)) w (p .nodata)) (gathered k h) ∙ chosen lookup size (p .nodata) s (getD v k nan)))
+    ∙ ap (masked e (p .nodata) (take l v)) (lanes-list nan 0 (tableColor lookup size (p .nodata)) l colors v n m (in-two-phases l lookup size (p .nodata) v words colors s gathered known))

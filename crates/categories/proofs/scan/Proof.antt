@@ -11,8 +11,7 @@ use mir.Syntax.{w64}
 use mir.Val.{toZ, ofZ}
 use mir.ValLaws.{toZ-ofZ}
 use Rattle.categories.specs.Rule.{ruleColor}
-use Rattle.categories.proofs.Search.{same-bits}
-use Rattle.categories.proofs.FirstKey.{found-at, found-nowhere}
+use Rattle.categories.proofs.FirstKey.{same-bits, found-at, found-nowhere}
 use Rattle.categories.proofs.scan.Statement.{statement}
 use Rattle.categories.proofs.scan.Tie as tie
 
@@ -44,7 +43,7 @@ returns c =
     let a = s .args in
     let i = l .loop .i in
     let back = toZ-ofZ w64 (a .key) (s .fits .key) in
-    let same = same-bits (getD (a .keys .now) i (pos 0)) (a .key) (record { sfits = c .before .before .if12 .given }) (s .fits .key) (c .before .if1 .taken) in
+    let same = same-bits w64 (getD (a .keys .now) i (pos 0)) (a .key) (record { sfits = c .before .before .if12 .given }) (s .fits .key) (c .before .if1 .taken) in
     sym (ap (ruleColor [] (a .colors .now) (a .nodata))
     (found-at (a .keys .now) (a .key) (a .count) i (c .before .before .before .loop-test .taken) same (λ j q e. l .loop .inv j q (e ∙ sym back))))
 

@@ -1,0 +1,4 @@
+-- What the proofs of this crate share.
+mod NearKeys
+mod Steps
+mod Sought

@@ -1,0 +1,18 @@
+-- `searchable` meets its contract. Assumes nothing.
+use borrow.Author.Needs.{needs}
+use Rattle.key_search.specs.Searchable.{searchable}
+use Rattle.key_search.proofs.searchable.Statement.{statement}
+use Rattle.key_search.proofs.searchable.Tie as tie
+
+ascending-requires : tie.Need-ascending-requires
+ascending-requires c κs = search needs
+
+in-range-requires : tie.Need-in-range-requires
+in-range-requires c κs = search needs
+
+returns : tie.Need-returns
+unfolding searchable
+returns c = cc
+
+pub searchable-spec : {M : Type 1} → statement M
+searchable-spec = tie.close (tie.spec ascending-requires in-range-requires returns)

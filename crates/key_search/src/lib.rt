@@ -1,0 +1,155 @@
+// Keys that ascend: sixteen samples looked up at once, by halving (docs/RULES.md, "Categoric"). The keys are narrowed to
+// i32 first: comparisons of 64 bits are not vectorised.
+use cast::Truncated;
+ghost use mathlib.Core.Path.{_≡_};
+ghost use mathlib.Core.Bool.{true, cond};
+ghost use mathlib.Core.List.{List};
+ghost use Prim.Native.Nat.{ℕ, _*_, _≤_, _<_};
+ghost use lib.Ieee.{nan};
+ghost use lib.IntN.{ℤ, pos};
+ghost use lib.ListN.{getD};
+ghost use Rattle.cast.specs.Truncated.{truncated};
+ghost use Rattle.categories.specs.Rule.{eqZ, keyColor};
+ghost use Rattle.lists.specs.Lanes.{Lanes};
+ghost use Rattle.key_search.specs.Searchable.{allNear, searchable};
+ghost use Rattle.key_search.specs.Narrow.{Narrow, keyOf};
+ghost use Rattle.key_search.specs.Halving.{half, Within};
+
+// ---- the keys, once a painting
+
+// Whether the counted keys ascend and each lies from -16,777,216 to 16,777,216, as a builder leaves them.
+pub fn searchable(keys: &[i64; 256], count: usize) -> bool
+    requires { ⌜ count ≤ 256 ⌝ }
+    ensures { λ r. ⌜ r ≡ searchable (now (keys .entry)) count ⌝ }
+{
+    let up = categories::ascending(keys, count);
+    let near = in_range(keys, count);
+    up & near
+}
+
+// Whether each of the counted keys lies in that range.
+fn in_range(keys: &[i64; 256], count: usize) -> bool
+    requires { ⌜ count ≤ 256 ⌝ }
+    ensures { λ r. ⌜ r ≡ allNear (now (keys .entry)) count ⌝ }
+{
+    let mut result = true;
+    let mut i: usize = 0;
+    while i < count {
+        result = result & ((-16777217 < keys[i]) & (keys[i] < 16777217));
+        i += 1;
+    }
+    result
+}
+
+// The counted keys as i32, then 2,147,483,647, which is above every key.
+pub fn narrowed(keys: &[i64; 256], count: usize) -> [i32; 256]
+    requires { ⌜ (count ≤ 256) × (searchable (now keys) count ≡ true) ⌝ }
+    ensures { λ r. ⌜ Narrow (now (keys .entry)) count r ⌝ }
+{
+    let mut result = [2147483647i32; 256];
+    let mut i: usize = 0;
+    while i < count {
+        result[i] = keys[i] as i32;
+        i += 1;
+    }
+    result
+}
+
+// ---- the samples
+
+// The colours of sixteen samples, by the keys: eight steps for 256 places.
+pub fn colors_for_numeric_values(
+    narrow: &[i32; 256],
+    colors: &[u32; 256],
+    nodata: u32,
+    value: [f32; 16],
+) -> [u32; 16]
+    ensures { λ r. ⌜ ((keys : List ℤ) (count : ℕ) → Narrow keys count (now (narrow .entry)) → Lanes 0 16 r (λ k. keyColor keys (now (colors .entry)) count nodata (getD value k nan))) ⌝ }
+{
+    let key = narrowed_samples(value);
+    let a = [0u32; 16];
+    let b = halved(narrow, 128, key, a);
+    let c = halved(narrow, 64, key, b);
+    let d = halved(narrow, 32, key, c);
+    let e = halved(narrow, 16, key, d);
+    let f = halved(narrow, 8, key, e);
+    let g = halved(narrow, 4, key, f);
+    let h = halved(narrow, 2, key, g);
+    let i = halved(narrow, 1, key, h);
+    colors_at(narrow, colors, i, key, nodata)
+}
+
+// Each sample's key.
+fn narrowed_samples(value: [f32; 16]) -> [i32; 16]
+    ensures { λ r. ⌜ Lanes (pos 0) 16 r (λ k. keyOf (truncated (getD value k nan))) ⌝ }
+{
+    let mut result = [0i32; 16];
+    let mut i: usize = 0;
+    while i < 16 {
+        result[i] = narrowed_sample(value[i]);
+        i += 1;
+    }
+    result
+}
+
+// The key of a sample, or -16,777,217, which is no key, where it has none or one outside the range.
+fn narrowed_sample(value: f32) -> i32
+    ensures { λ r. ⌜ r ≡ keyOf (truncated value) ⌝ }
+{
+    match cast::to_i64(value) {
+        Truncated::Whole(key) => narrowed_key(key),
+        Truncated::Outside => -16777217,
+    }
+}
+
+// A key within the range as it is.
+fn narrowed_key(key: i64) -> i32
+    ensures { λ r. ⌜ r ≡ keyOf (Truncated.Whole key) ⌝ }
+{
+    let inside = (-16777217 < key) & (key < 16777217);
+    let kept = if inside { key } else { -16777217 };
+    kept as i32
+}
+
+// Each lane's half in which the key can be. The flag is a factor: as an `if` it would be a branch.
+fn halved(narrow: &[i32; 256], step: u32, key: [i32; 16], places: [u32; 16]) -> [u32; 16]
+    requires { ⌜ (0 < step) × (Within (step * 2) places) ⌝ }
+    ensures { λ r. ⌜ (Lanes 0 16 r (λ k. half (now (narrow .entry)) step (getD key k (pos 0)) (getD places k 0))) × (Within step r) ⌝ }
+{
+    let mut result = [0u32; 16];
+    let mut i: usize = 0;
+    while i < 16 {
+        let at = (places[i] + step) as usize;
+        result[i] = places[i] + step * ((narrow[at] <= key[i]) as u32);
+        i += 1;
+    }
+    result
+}
+
+// The colours at the places where the keys are, nodata elsewhere.
+fn colors_at(
+    narrow: &[i32; 256],
+    colors: &[u32; 256],
+    places: [u32; 16],
+    key: [i32; 16],
+    nodata: u32,
+) -> [u32; 16]
+    requires { ⌜ Within 1 places ⌝ }
+    ensures { λ r. ⌜ Lanes 0 16 r (λ k. cond (eqZ (getD (now (narrow .entry)) (getD places k 0) (pos 0)) (getD key k (pos 0))) (getD (now (colors .entry)) (getD places k 0) 0) nodata) ⌝ }
+{
+    let mut result = [0u32; 16];
+    let mut i: usize = 0;
+    while i < 16 {
+        let place = places[i] as usize;
+        result[i] = pick(narrow[place] == key[i], colors[place], nodata);
+        i += 1;
+    }
+    result
+}
+
+// One of two words by a flag: a select in the loop over lanes.
+fn pick(flag: bool, x: u32, y: u32) -> u32
+    ensures { λ r. ⌜ r ≡ cond flag x y ⌝ }
+{
+    if flag { x } else { y }
+}
