@@ -1,4 +1,5 @@
 -- The laws that other crates cite, and what the proofs of this crate share.
 pub mod Stored
+pub mod AnyKind
 mod Making
-mod Ranging
+pub mod Ranging

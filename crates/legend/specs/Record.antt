@@ -1,5 +1,7 @@
 -- A legend: its kind beside the three records, of which that of its kind alone counts, and its settings (docs/RULES.md, "Where each call says no"). Definitions only.
+use mathlib.Core.Bool.{Bool, true}
 use mathlib.Core.List.{[]}
+use lib.Dec.{ltb}
 use Rattle.refusal.specs.declared.Answer.{Answer}
 use Rattle.refusal.specs.declared.Answer.the-variants.{Done}
 use Rattle.colormapper.specs.declared.MappingConfig.{MappingConfig}
@@ -35,3 +37,12 @@ storedIn kind.CategoricNumeric l = categoricRefusal (l .categoric .count) (l .ca
 
 unfoldable pub storedRefusal : Legend → Answer
 storedRefusal l = storedIn (l .kind) l
+
+-- whether its lanes have a rule of their own: a categoric legend without a table has none
+abbrev pub simdIn : LegendKind → Legend → Bool
+simdIn kind.Linear l = true
+simdIn kind.Banded l = true
+simdIn kind.CategoricNumeric l = ltb 0 (l .categoric .«lookup_count»)
+
+unfoldable pub simdSupported : Legend → Bool
+simdSupported l = simdIn (l .kind) l

@@ -1,5 +1,6 @@
 // Painting f32 samples by a banded legend, plainly and in lanes (docs/RULES.md, "Painting"). The refusals are the caller's, who has
-// seen to it that at most 64 bands are counted.
+// seen to it that at most 64 bands are counted. Bands that are apart are searched by place, others scanned: asked once a raster.
+use bands::Scan;
 use colormapper::Exclusions;
 use colormapper::UnmappableColors;
 ghost use mathlib.Core.Path.{_≡_};
@@ -8,9 +9,11 @@ ghost use mathlib.Core.List.{map, _++_};
 ghost use Prim.Native.Nat.{_+_, _≤_};
 ghost use lib.ListN.{length, take, drop};
 ghost use Rattle.bands.specs.Packed.{packed};
+ghost use Rattle.band_search.specs.Apart.{apart};
 ghost use Rattle.painting.specs.Painted.{plainPainted, lanePainted, chunkOver};
 ghost use Rattle.painting.specs.Contracts.{laneCount};
 ghost use Rattle.paint_banded.specs.Rules.{plainSample, laneChunk};
+ghost use Rattle.paint_banded.specs.Search.{Searchable};
 
 // What a banded legend is painted by, beside its bands.
 pub struct BandedPaint {
@@ -19,21 +22,7 @@ pub struct BandedPaint {
     pub exclusions: Exclusions,
 }
 
-// ---- one sample, and the words of a chunk at each lane count, in straight lines over the literal
-
-fn sample(
-    starts: &[f32; 64],
-    ends: &[f32; 64],
-    colors: &[u32; 64],
-    p: BandedPaint,
-    value: f32,
-) -> u32
-    requires { ⌜ p .count ≤ 64 ⌝ }
-    ensures { λ r. ⌜ r ≡ plainSample (packed (now (starts .entry)) (now (ends .entry)) (now (colors .entry)) (p .count)) p value ⌝ }
-{
-    let color = bands::color_for_numeric_value(starts, ends, colors, p.count, p.unmappable, value);
-    p.exclusions.masked(value, p.unmappable.nodata, color)
-}
+// ---- sixteen words by the plain rule: of all bands, or of the one at each sample's place
 
 fn words_plain(
     starts: &[f32; 64],
@@ -48,6 +37,40 @@ fn words_plain(
     let c = bands::colors_for_numeric_values(starts, ends, colors, p.count, p.unmappable, v);
     p.exclusions.masked_simd(16, v, p.unmappable.nodata, c)
 }
+
+fn words_searched(
+    starts: &[f32; 64],
+    ends: &[f32; 64],
+    colors: &[u32; 64],
+    p: BandedPaint,
+    v: [f32; 16],
+) -> [u32; 16]
+    requires { ⌜ (p .count ≤ 64) × (apart (now starts) (now ends) (p .count) ≡ true) ⌝ }
+    ensures { λ d. ⌜ take 16 d ≡ map (plainSample (packed (now (starts .entry)) (now (ends .entry)) (now (colors .entry)) (p .count)) p) (take 16 v) ⌝ }
+{
+    let c = band_search::colors_for_numeric_values(starts, ends, colors, p.count, p.unmappable, v);
+    p.exclusions.masked_simd(16, v, p.unmappable.nodata, c)
+}
+
+// By a search where it is asked for: only of bands that are apart.
+fn words(
+    starts: &[f32; 64],
+    ends: &[f32; 64],
+    colors: &[u32; 64],
+    p: BandedPaint,
+    search: bool,
+    v: [f32; 16],
+) -> [u32; 16]
+    requires { ⌜ (p .count ≤ 64) × (search ≡ true → apart (now starts) (now ends) (p .count) ≡ true) ⌝ }
+    ensures { λ d. ⌜ take 16 d ≡ map (plainSample (packed (now (starts .entry)) (now (ends .entry)) (now (colors .entry)) (p .count)) p) (take 16 v) ⌝ }
+{
+    if search {
+        return words_searched(starts, ends, colors, p, v);
+    }
+    words_plain(starts, ends, colors, p, v)
+}
+
+// ---- the words of a chunk by a scan, at each lane count, in straight lines over the literal
 
 fn words4(
     starts: &[f32; 64],
@@ -94,6 +117,74 @@ fn words16(
     p.exclusions.masked_simd(16, v, p.unmappable.nodata, c)
 }
 
+// ---- the same by a search: the scan is what stands at the lanes' places
+
+fn words4_searched(
+    starts: &[f32; 64],
+    ends: &[f32; 64],
+    colors: &[u32; 64],
+    p: BandedPaint,
+    v: [f32; 16],
+) -> [u32; 16]
+    requires { ⌜ (p .count ≤ 64) × Searchable (now starts) (now ends) (p .count) ⌝ }
+    ensures { λ d. ⌜ take 4 d ≡ laneChunk (packed (now (starts .entry)) (now (ends .entry)) (now (colors .entry)) (p .count)) p (take 4 v) ⌝ }
+{
+    let places = band_search::places_of(4, starts, p.count, v);
+    let unheld = [p.unmappable.nodata; 16];
+    let held = band_search::colors_at(4, starts, ends, colors, places, v, unheld);
+    let all = band_search::all_held(4, starts, ends, places, v);
+    let scan = Scan {
+        colors: held,
+        finished: all,
+    };
+    let c = bands::settled(4, starts, ends, colors, p.count, p.unmappable, v, scan);
+    p.exclusions.masked_simd(4, v, p.unmappable.nodata, c)
+}
+
+fn words8_searched(
+    starts: &[f32; 64],
+    ends: &[f32; 64],
+    colors: &[u32; 64],
+    p: BandedPaint,
+    v: [f32; 16],
+) -> [u32; 16]
+    requires { ⌜ (p .count ≤ 64) × Searchable (now starts) (now ends) (p .count) ⌝ }
+    ensures { λ d. ⌜ take 8 d ≡ laneChunk (packed (now (starts .entry)) (now (ends .entry)) (now (colors .entry)) (p .count)) p (take 8 v) ⌝ }
+{
+    let places = band_search::places_of(8, starts, p.count, v);
+    let unheld = [p.unmappable.nodata; 16];
+    let held = band_search::colors_at(8, starts, ends, colors, places, v, unheld);
+    let all = band_search::all_held(8, starts, ends, places, v);
+    let scan = Scan {
+        colors: held,
+        finished: all,
+    };
+    let c = bands::settled(8, starts, ends, colors, p.count, p.unmappable, v, scan);
+    p.exclusions.masked_simd(8, v, p.unmappable.nodata, c)
+}
+
+fn words16_searched(
+    starts: &[f32; 64],
+    ends: &[f32; 64],
+    colors: &[u32; 64],
+    p: BandedPaint,
+    v: [f32; 16],
+) -> [u32; 16]
+    requires { ⌜ (p .count ≤ 64) × Searchable (now starts) (now ends) (p .count) ⌝ }
+    ensures { λ d. ⌜ take 16 d ≡ laneChunk (packed (now (starts .entry)) (now (ends .entry)) (now (colors .entry)) (p .count)) p (take 16 v) ⌝ }
+{
+    let places = band_search::places_of(16, starts, p.count, v);
+    let unheld = [p.unmappable.nodata; 16];
+    let held = band_search::colors_at(16, starts, ends, colors, places, v, unheld);
+    let all = band_search::all_held(16, starts, ends, places, v);
+    let scan = Scan {
+        colors: held,
+        finished: all,
+    };
+    let c = bands::settled(16, starts, ends, colors, p.count, p.unmappable, v, scan);
+    p.exclusions.masked_simd(16, v, p.unmappable.nodata, c)
+}
+
 // ---- one chunk of a raster
 
 fn block(
@@ -101,15 +192,16 @@ fn block(
     ends: &[f32; 64],
     colors: &[u32; 64],
     p: BandedPaint,
+    search: bool,
     src: &[f32],
     base: usize,
     out: &mut [u32],
 )
-    requires { ⌜ (p .count ≤ 64) × (base + 16 ≤ length (now src)) × (base + 16 ≤ length (now out)) ⌝ }
+    requires { ⌜ (p .count ≤ 64) × (search ≡ true → apart (now starts) (now ends) (p .count) ≡ true) × (base + 16 ≤ length (now src)) × (base + 16 ≤ length (now out)) ⌝ }
     ensures { λ _. ⌜ now (out .exit) ≡ chunkOver (map (plainSample (packed (now (starts .entry)) (now (ends .entry)) (now (colors .entry)) (p .count)) p)) (now (src .entry)) (now (out .entry)) base 16 ⌝ }
 {
     let v = painting::load(16, src, base);
-    painting::store(16, words_plain(starts, ends, colors, p, v), base, out);
+    painting::store(16, words(starts, ends, colors, p, search, v), base, out);
 }
 
 fn chunk(
@@ -139,25 +231,50 @@ fn chunk(
     painting::store(16, words16(starts, ends, colors, p, v), base, out);
 }
 
-// The samples from base on, one by one.
+fn chunk_searched(
+    starts: &[f32; 64],
+    ends: &[f32; 64],
+    colors: &[u32; 64],
+    p: BandedPaint,
+    l: usize,
+    src: &[f32],
+    base: usize,
+    out: &mut [u32],
+)
+    requires { ⌜ (p .count ≤ 64) × Searchable (now starts) (now ends) (p .count) × (laneCount l ≡ true) × (base + l ≤ length (now src)) × (base + l ≤ length (now out)) ⌝ }
+    ensures { λ _. ⌜ now (out .exit) ≡ chunkOver (laneChunk (packed (now (starts .entry)) (now (ends .entry)) (now (colors .entry)) (p .count)) p) (now (src .entry)) (now (out .entry)) base l ⌝ }
+{
+    if l == 4 {
+        let v = painting::load(4, src, base);
+        painting::store(4, words4_searched(starts, ends, colors, p, v), base, out);
+        return;
+    }
+    if l == 8 {
+        let v = painting::load(8, src, base);
+        painting::store(8, words8_searched(starts, ends, colors, p, v), base, out);
+        return;
+    }
+    let v = painting::load(16, src, base);
+    painting::store(16, words16_searched(starts, ends, colors, p, v), base, out);
+}
+
+// The samples from base on, at most sixteen: coloured at once among sixteen lanes, whatever the others hold.
 fn rest(
     starts: &[f32; 64],
     ends: &[f32; 64],
     colors: &[u32; 64],
     p: BandedPaint,
+    search: bool,
     src: &[f32],
     base: usize,
     out: &mut [u32],
 )
-    requires { ⌜ (p .count ≤ 64) × (base ≤ length (now src)) × (length (now out) ≡ length (now src)) ⌝ }
+    requires { ⌜ (p .count ≤ 64) × (search ≡ true → apart (now starts) (now ends) (p .count) ≡ true) × (base ≤ length (now src)) × (length (now src) ≤ base + 16) × (length (now out) ≡ length (now src)) ⌝ }
     ensures { λ _. ⌜ now (out .exit) ≡ take base (now (out .entry)) ++ map (plainSample (packed (now (starts .entry)) (now (ends .entry)) (now (colors .entry)) (p .count)) p) (drop base (now (src .entry))) ⌝ }
 {
-    let n = src.len();
-    let mut i = base;
-    while i < n {
-        out[i] = sample(starts, ends, colors, p, src[i]);
-        i += 1;
-    }
+    let m = src.len() - base;
+    let v = painting::load(m, src, base);
+    painting::store(m, words(starts, ends, colors, p, search, v), base, out);
 }
 
 // ---- a whole raster, with an output of its length
@@ -174,13 +291,14 @@ pub fn paint(
     requires { ⌜ (p .count ≤ 64) × (length (now out) ≡ length (now src)) ⌝ }
     ensures { λ _. ⌜ now (out .exit) ≡ plainPainted (plainSample (packed (now (starts .entry)) (now (ends .entry)) (now (colors .entry)) (p .count)) p) (now (src .entry)) ⌝ }
 {
+    let search = band_search::apart(starts, ends, p.count);
     let n = src.len();
     let mut base: usize = 0;
     while 16 <= n - base {
-        block(starts, ends, colors, p, src, base, out);
+        block(starts, ends, colors, p, search, src, base, out);
         base += 16;
     }
-    rest(starts, ends, colors, p, src, base, out);
+    rest(starts, ends, colors, p, search, src, base, out);
 }
 
 // Lane painting: whole chunks of l samples, then the rest.
@@ -196,11 +314,16 @@ pub fn paint_simd(
     requires { ⌜ (p .count ≤ 64) × (laneCount l ≡ true) × (length (now out) ≡ length (now src)) ⌝ }
     ensures { λ _. ⌜ now (out .exit) ≡ lanePainted l (laneChunk (packed (now (starts .entry)) (now (ends .entry)) (now (colors .entry)) (p .count)) p) (plainSample (packed (now (starts .entry)) (now (ends .entry)) (now (colors .entry)) (p .count)) p) (now (src .entry)) ⌝ }
 {
+    let search = band_search::apart(starts, ends, p.count) & (0 < p.count);
     let n = src.len();
     let mut base: usize = 0;
     while l <= n - base {
-        chunk(starts, ends, colors, p, l, src, base, out);
+        if search {
+            chunk_searched(starts, ends, colors, p, l, src, base, out);
+        } else {
+            chunk(starts, ends, colors, p, l, src, base, out);
+        }
         base += l;
     }
-    rest(starts, ends, colors, p, src, base, out);
+    rest(starts, ends, colors, p, search, src, base, out);
 }

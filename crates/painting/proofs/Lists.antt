@@ -7,7 +7,7 @@ use native.Mathlib.Numerals.{add-one}
 use native.Mathlib.Omega.{arith}
 use lib.ListN.{length, take, drop, getD, set, length-append, length-take, length-drop, length-set, length-map, drop-of-length-le}
 use Rattle.lists.specs.Lanes.{Lanes}
-use lib.Seq.{getD-set-same, getD-set-other, getD-take, getD-drop, ext-getD, take-suc-set, drop-cons, take-all, drop-length, take-at, length-take-le, paste, paste-zero, paste-suc}
+use lib.Seq.{getD-set-same, getD-set-other, getD-take, getD-drop, ext-getD, take-suc-set, drop-cons, take-all, take-take, drop-length, take-at, length-take-le, paste, paste-zero, paste-suc}
 
 -- all lanes below l, as a list
 pub lanes-list : {A B : Type 0} (y : A) (z : B) (f : A → B) (l : ℕ) (r : List B) (xs : List A) → l ≤ length r → l ≤ length xs → Lanes z l r (λ k. f (getD xs k y)) → take l r ≡ map f (take l xs)
@@ -27,6 +27,15 @@ map-id (x ∷ xs) = ap (λ t. x ∷ t) (map-id xs)
 pub lanes-part : {A : Type 0} (z : A) (l : ℕ) (r xs : List A) (base : ℕ) → l ≤ length r → base + l ≤ length xs → Lanes z l r (λ k. getD xs (base + k) z) → take l r ≡ take l (drop base xs)
 lanes-part z l r xs base h g all =
     lanes-list z z (λ x. x) l r (drop base xs) h (omega (arith, length-drop base xs)) (λ k q. all k q ∙ sym (getD-drop base xs k z)) ∙ map-id (take l (drop base xs))
+
+take-map : {A B : Type 0} (f : A → B) (m : ℕ) (xs : List A) → take m (map f xs) ≡ map f (take m xs)
+take-map f zero xs = refl
+take-map f (suc m) [] = refl
+take-map f (suc m) (x ∷ xs) = ap (λ t. f x ∷ t) (take-map f m xs)
+
+-- what is mapped up to n is mapped up to any m below it
+pub front-mapped : {A B : Type 0} (f : A → B) (m n : ℕ) (r : List B) (xs : List A) → m ≤ n → take n r ≡ map f (take n xs) → take m r ≡ map f (take m xs)
+front-mapped f m n r xs h e = sym (take-take m n r h) ∙ ap (take m) e ∙ take-map f m (take n xs) ∙ ap (map f) (take-take m n xs h)
 
 -- an element of a mapped list, whatever stands for one past the end
 pub getD-map-in : {A B : Type 0} (f : A → B) (xs : List A) (i : ℕ) (y : A) (z : B) → i < length xs → f (getD xs i y) ≡ getD (map f xs) i z

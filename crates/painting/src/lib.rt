@@ -64,7 +64,7 @@ fn length_refusal(raster: usize, out: usize) -> Answer
     Answer::Refused(Refusal::OutputLengthDiffers)
 }
 
-// ---- chunks. The lane count is a literal of the caller's, who has a whole chunk at hand.
+// ---- chunks. The lane count is a literal of the caller's, who has a whole chunk at hand, or what is left of a raster.
 
 // The chunk of a raster at base, in the first lanes.
 pub fn load(l: usize, src: &[f32], base: usize) -> [f32; 16]

@@ -2,8 +2,8 @@
 use borrow.Author.Needs.{needs}
 use native.Mathlib.Omega.{arith}
 use Prim.Native.Nat.{_-_}
-use mathlib.Core.Path.{_≡_, refl, _∙_}
-use lib.ListN.{length, length-map}
+use mathlib.Core.Path.{sym, _∙_}
+use lib.ListN.{length-map}
 use Rattle.painting.proofs.Steps.{InChunks, chunks-start, chunk-turn, chunks-end}
 use Rattle.painting.proofs.Splitting.{plain-in-blocks}
 use mathlib.Core.List.{map}
@@ -13,19 +13,22 @@ use Rattle.paint_banded.proofs.paint.Statement.{statement}
 use Rattle.paint_banded.proofs.paint.Tie as tie
 
 abbrev Inv-loop : tie.InvT-loop
-Inv-loop starts ends colors p src out₀ n base₀ out base = (n ≡ length src) × InChunks 16 (map (plainSample (packed starts ends colors (p .count)) p)) (plainSample (packed starts ends colors (p .count)) p) src base out
+Inv-loop starts ends colors p src out₀ searched n base₀ out base = InChunks 16 (map (plainSample (packed starts ends colors (p .count)) p)) (plainSample (packed starts ends colors (p .count)) p) src base out
 
 abbrev μ-loop : tie.MeasureT-loop
-μ-loop starts ends colors p src out₀ n base₀ out base = n - base
+μ-loop starts ends colors p src out₀ searched n base₀ out base = n - base
+
+apart-requires : tie.Need-apart-requires Inv-loop μ-loop
+apart-requires c κs = search needs
 
 loop-holds : tie.Need-loop-holds Inv-loop μ-loop
-loop-holds c = (refl, chunks-start (search needs))
+loop-holds c = chunks-start (search needs)
 
 sub-loop : tie.Need-sub-loop Inv-loop μ-loop
 sub-loop c = search needs
 
 block-requires : tie.Need-block-requires Inv-loop μ-loop
-block-requires c κs = (search needs, omega arith, omega arith)
+block-requires c κs = (search needs, λ h. sym (c .before .before .before .apart .ensures) ∙ h, omega arith, omega arith)
 
 add-base : tie.Need-add-base Inv-loop μ-loop
 add-base c = search needs
@@ -34,16 +37,16 @@ loop-less : tie.Need-loop-less Inv-loop μ-loop
 loop-less c = search needs
 
 loop-again : tie.Need-loop-again Inv-loop μ-loop
-loop-again c = (refl, chunk-turn (c .before .before .before .before .before .loop .inv .1) (omega arith) (omega arith) (λ xs. length-map xs _) (c .before .before .block .ensures))
+loop-again c = chunk-turn (c .before .before .before .before .before .loop .inv) (omega arith) (omega arith) (λ xs. length-map xs _) (c .before .before .block .ensures)
 
 rest-requires : tie.Need-rest-requires Inv-loop μ-loop
-rest-requires c κs = search needs
+rest-requires c κs = (search needs, λ h. sym (c .before .before .before .apart .ensures) ∙ h, search needs, omega arith, search needs)
 
 same-length : tie.Need-same-length Inv-loop μ-loop
 same-length c = search needs
 
 returns : tie.Need-returns Inv-loop μ-loop
-returns c = c .before .before .rest .ensures ∙ chunks-end (c .before .before .before .before .before .loop .inv .1) (omega arith) ∙ plain-in-blocks 16 _ _
+returns c = c .before .before .rest .ensures ∙ chunks-end (c .before .before .before .before .before .loop .inv) (omega arith) ∙ plain-in-blocks 16 _ _
 
 pub paint-spec : {M : Type 1} → statement M
 paint-spec =
@@ -51,6 +54,7 @@ paint-spec =
     (tie.spec
     Inv-loop
     μ-loop
+    apart-requires
     loop-holds
     sub-loop
     block-requires

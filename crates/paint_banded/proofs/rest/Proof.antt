@@ -1,70 +1,29 @@
 -- `rest` meets its contract. Assumes nothing.
+use Rattle.painting.proofs.Whole.{rest-is}
 use borrow.Author.Needs.{needs}
-use native.Mathlib.Omega.{arith}
-use Prim.Native.Nat.{_-_}
-use mathlib.Core.Path.{_≡_, refl}
-use lib.ListN.{length, take, drop}
-use Rattle.painting.proofs.Steps.{Plainly, plain-turn, plain-end}
-use mathlib.Core.List.{map, _++_}
-use lib.Ieee.{nan}
-use Rattle.bands.specs.Packed.{packed}
-use Rattle.paint_banded.specs.Rules.{plainSample}
 use Rattle.paint_banded.proofs.rest.Statement.{statement}
 use Rattle.paint_banded.proofs.rest.Tie as tie
 
-abbrev Inv-loop : tie.InvT-loop
-Inv-loop starts ends colors p src base out₀ n i₀ out i = (n ≡ length src) × Plainly (take base out₀ ++ map (plainSample (packed starts ends colors (p .count)) p) (drop base src)) (plainSample (packed starts ends colors (p .count)) p) src i out
+sub-m : tie.Need-sub-m
+sub-m c = search needs
 
-abbrev μ-loop : tie.MeasureT-loop
-μ-loop starts ends colors p src base out₀ n i₀ out i = n - i
+load-requires : tie.Need-load-requires
+load-requires c κs = search needs
 
-loop-holds : tie.Need-loop-holds Inv-loop μ-loop
-loop-holds c = (refl, record { upto = search needs; same = search needs; is = refl })
+words-requires : tie.Need-words-requires
+words-requires c κs = search needs
 
-mul-sample : tie.Need-mul-sample Inv-loop μ-loop
-mul-sample c = search needs
+store-requires : tie.Need-store-requires
+store-requires c κs = search needs
 
-shared-slice-read-sample : tie.Need-shared-slice-read-sample Inv-loop μ-loop
-shared-slice-read-sample c = search needs
-
-sample-requires : tie.Need-sample-requires Inv-loop μ-loop
-sample-requires c κs = search needs
-
-mul-out : tie.Need-mul-out Inv-loop μ-loop
-mul-out c = search needs
-
-slice-write-out : tie.Need-slice-write-out Inv-loop μ-loop
-slice-write-out c = search needs
-
-add-i : tie.Need-add-i Inv-loop μ-loop
-add-i c = search needs
-
-loop-less : tie.Need-loop-less Inv-loop μ-loop
-loop-less c = search needs
-
-loop-again : tie.Need-loop-again Inv-loop μ-loop
-loop-again c = (refl, plain-turn nan (c .before .before .before .loop .inv .1) (omega arith) (c .sample .ensures))
-
-same-length : tie.Need-same-length Inv-loop μ-loop
+same-length : tie.Need-same-length
 same-length c = search needs
 
-returns : tie.Need-returns Inv-loop μ-loop
-returns c = plain-end (c .before .loop .inv .1) (omega arith)
+returns : tie.Need-returns
+returns c =
+    let a = c .before .before .before .before .before .before .before .before .args in
+    rest-is _ (a .src .now) (a .out .now) (a .base) 16 (c .before .before .before .before .words .result) (c .before .before .before .before .before .load .result) (search needs) (search needs) (search needs) (c .before .before .store .ensures) (c .before .before .before .before .words .ensures) (c .before .before .before .before .before .load .ensures)
 
 pub rest-spec : {M : Type 1} → statement M
 rest-spec =
-    tie.close
-    (tie.spec
-    Inv-loop
-    μ-loop
-    loop-holds
-    mul-sample
-    shared-slice-read-sample
-    sample-requires
-    mul-out
-    slice-write-out
-    add-i
-    loop-less
-    loop-again
-    same-length
-    returns)
+    tie.close (tie.spec sub-m load-requires words-requires store-requires same-length returns)

@@ -1,10 +1,6 @@
 -- `words8` meets its contract. Assumes nothing.
-use mathlib.Core.Path.{ap, _∙_}
-use lib.ListN.{take}
-use Rattle.painting.proofs.Masking.{lanes-masked}
-use Rattle.painting.specs.Masked.{masked}
-use Rattle.colormapper.specs.Unmappable.{excluded}
 use borrow.Author.Needs.{needs}
+use Rattle.paint_banded.proofs.MaskedWords.{lane-words}
 use Rattle.paint_banded.proofs.words8.Statement.{statement}
 use Rattle.paint_banded.proofs.words8.Tie as tie
 
@@ -18,7 +14,7 @@ masked-simd-requires : tie.Need-masked-simd-requires
 masked-simd-requires c κs = search needs
 
 returns : tie.Need-returns
-returns c = let e = excluded (c .before .before .before .args .p .exclusions) in lanes-masked e (c .before .before .before .args .p .unmappable .nodata) 8 (c .masked-simd .result) (c .before .before .before .args .v) (c .before .settled .result) (search needs) (search needs) (search needs) (c .masked-simd .ensures) ∙ ap (masked e (c .before .before .before .args .p .unmappable .nodata) (take 8 (c .before .before .before .args .v))) (c .before .settled .ensures)
+returns c = let a = c .before .before .before .args in lane-words 8 _ (a .p) (a .v) (c .before .settled .result) (c .masked-simd .result) (c .masked-simd .ensures) (c .before .settled .ensures) (search needs) (search needs) (search needs)
 
 pub words8-spec : {M : Type 1} → statement M
 words8-spec = tie.close (tie.spec scanned-requires settled-requires masked-simd-requires returns)

@@ -1,0 +1,5 @@
+-- The laws that other crates cite, and what the proofs of this crate share.
+pub mod Lanes
+mod Blocked
+mod Calls
+mod Listing

@@ -1,0 +1,33 @@
+-- `color_for_value` meets its contract. Assumes nothing.
+use mathlib.Core.Path.{sym, ap, _∙_}
+use Rattle.legend.specs.Painters.{painter}
+use Rattle.apply.specs.declared.PixelColor.the-variants.{Color}
+use Rattle.apply.specs.Values.{colorUnless, colorForValue}
+use borrow.Author.Needs.{needs}
+use Rattle.apply.proofs.color_for_value.Statement.{statement}
+use Rattle.apply.proofs.color_for_value.Tie as tie
+
+stored-refusal-requires : tie.Need-stored-refusal-requires
+stored-refusal-requires c κs = search needs
+
+enum-known-why : tie.Need-enum-known-why
+enum-known-why c = search needs
+
+enum-told : tie.Need-enum-told
+enum-told c = search needs
+
+pixel-requires : tie.Need-pixel-requires
+pixel-requires c κs = sym (c .before .before .stored-refusal .ensures) ∙ c .enum-told .given .1
+
+returns : tie.Need-returns
+unfolding colorForValue
+returns c = let s = c .before .before .before .before .args in sym (ap (λ a. colorUnless a (painter (s .legend) (s .nodata) .plain (s .value))) (sym (c .before .before .before .stored-refusal .ensures) ∙ c .before .why .given .1))
+
+returns-2 : tie.Need-returns-2
+unfolding colorForValue
+returns-2 c = let s = c .before .before .before .before .args in ap Color (c .pixel .ensures) ∙ sym (ap (λ a. colorUnless a (painter (s .legend) (s .nodata) .plain (s .value))) (sym (c .before .before .before .stored-refusal .ensures) ∙ c .before .enum-told .given .1))
+
+pub color-for-value-spec : {M : Type 1} → statement M
+color-for-value-spec =
+    tie.close
+    (tie.spec stored-refusal-requires enum-known-why enum-told pixel-requires returns returns-2)

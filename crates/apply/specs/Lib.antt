@@ -1,0 +1,3 @@
+pub mod Painting
+pub mod Values
+pub mod ColorLists

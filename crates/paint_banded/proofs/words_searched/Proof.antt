@@ -1,0 +1,17 @@
+-- `words_searched` meets its contract. Assumes nothing.
+use borrow.Author.Needs.{needs}
+use Rattle.paint_banded.proofs.MaskedWords.{plain-words}
+use Rattle.paint_banded.proofs.words_searched.Statement.{statement}
+use Rattle.paint_banded.proofs.words_searched.Tie as tie
+
+colors-for-numeric-values-requires : tie.Need-colors-for-numeric-values-requires
+colors-for-numeric-values-requires c κs = search needs
+
+masked-simd-requires : tie.Need-masked-simd-requires
+masked-simd-requires c κs = search needs
+
+returns : tie.Need-returns
+returns c = let a = c .before .before .args in plain-words 16 _ (a .p) (a .v) (c .before .colors-for-numeric-values .result) (c .masked-simd .result) (c .masked-simd .ensures) (c .before .colors-for-numeric-values .ensures) (search needs) (search needs)
+
+pub words-searched-spec : {M : Type 1} → statement M
+words-searched-spec = tie.close (tie.spec colors-for-numeric-values-requires masked-simd-requires returns)
