@@ -10,24 +10,14 @@ ghost use lib.Ieee.{nan};
 ghost use lib.ListN.{getD};
 ghost use Rattle.floats.specs.RampIndex.{floorOf};
 ghost use Rattle.lists.specs.Lanes.{Lanes};
-ghost use Rattle.categories.specs.Rule.{firstKey, ruleColor, tableColor, keyColor};
+ghost use Rattle.categories.specs.Rule.{firstKey, ruleColor, keyColor};
 ghost use Rattle.categories.specs.InTable.{limit, inTable, kept};
 ghost use Rattle.categories.specs.Ascending.{ascends};
 
 // ---- with a table
 
-// The colour of a sample by the first `size` words of a table. Each sample looks up, and the word of one outside is replaced
-// after that: a load under a branch is not vectorised.
-pub fn table_color(lookup: &[u32; 513], size: usize, nodata: u32, value: f32) -> u32
-    requires { ⌜ size ≤ 513 ⌝ }
-    ensures { λ r. ⌜ r ≡ tableColor (now (lookup .entry)) size nodata value ⌝ }
-{
-    let index = table_index(size, value);
-    pick(in_table(size, value), lookup[index], nodata)
-}
-
-// A chunk's samples are looked up in two phases: `gather`, then `known` (proofs/Phases.antt). Painters call both with a
-// literal lane count.
+// A chunk's samples are looked up in two phases, `gather` and then `known` (proofs/Phases.antt): a load under a branch is
+// not vectorised. Painters call both with a literal lane count.
 
 // Each lane's word, the first for a sample outside.
 pub fn gather(lanes: usize, lookup: &[u32; 513], size: usize, value: [f32; 16]) -> [u32; 16]

@@ -1,13 +1,16 @@
 // Painting f32 samples by a categoric legend (docs/RULES.md, "Painting"): by its table, plainly and in lanes, or by its keys, plainly
-// only. The refusals are the caller's, who has seen to it that the counts are within capacity.
+// only. The refusals are the caller's, who has seen to it that the counts are within capacity. Samples that fill no block are
+// looked up as a block too, of which the first words are kept: one by one is slower.
 use colormapper::Exclusions;
 ghost use mathlib.Core.Path.{_≡_};
 ghost use mathlib.Core.Bool.{true};
-ghost use mathlib.Core.List.{map, _++_};
-ghost use Prim.Native.Nat.{_+_, _≤_};
+ghost use mathlib.Core.List.{List, map, _++_};
+ghost use Prim.Native.Nat.{ℕ, _+_, _≤_};
+ghost use lib.IntN.{ℤ};
 ghost use lib.ListN.{length, take, drop};
 ghost use Rattle.painting.specs.Painted.{plainPainted, lanePainted, chunkOver};
 ghost use Rattle.painting.specs.Contracts.{laneCount};
+ghost use Rattle.key_search.specs.Narrow.{Narrow};
 ghost use Rattle.paint_categoric.specs.Rules.{tableSample, tableChunk, keySample};
 
 // What a categoric legend is painted by, beside its table or its keys.
@@ -16,15 +19,7 @@ pub struct CategoricPaint {
     pub exclusions: Exclusions,
 }
 
-// ---- by a table: one sample, and the words of a chunk at each lane count, in straight lines over the literal
-
-fn table_sample(lookup: &[u32; 513], size: usize, p: CategoricPaint, value: f32) -> u32
-    requires { ⌜ size ≤ 513 ⌝ }
-    ensures { λ r. ⌜ r ≡ tableSample (now (lookup .entry)) size p value ⌝ }
-{
-    let color = categories::table_color(lookup, size, p.nodata, value);
-    p.exclusions.masked(value, p.nodata, color)
-}
+// ---- by a table: the words of a chunk at each lane count, in straight lines over the literal
 
 fn words4(lookup: &[u32; 513], size: usize, p: CategoricPaint, v: [f32; 16]) -> [u32; 16]
     requires { ⌜ size ≤ 513 ⌝ }
@@ -96,7 +91,7 @@ fn chunk(
     painting::store(16, words16(lookup, size, p, v), base, out);
 }
 
-// The samples from base on, one by one.
+// The samples from base on, at most sixteen.
 fn rest(
     lookup: &[u32; 513],
     size: usize,
@@ -105,15 +100,12 @@ fn rest(
     base: usize,
     out: &mut [u32],
 )
-    requires { ⌜ (size ≤ 513) × (base ≤ length (now src)) × (length (now out) ≡ length (now src)) ⌝ }
+    requires { ⌜ (size ≤ 513) × (base ≤ length (now src)) × (length (now src) ≤ base + 16) × (length (now out) ≡ length (now src)) ⌝ }
     ensures { λ _. ⌜ now (out .exit) ≡ take base (now (out .entry)) ++ map (tableSample (now (lookup .entry)) size p) (drop base (now (src .entry))) ⌝ }
 {
-    let n = src.len();
-    let mut i = base;
-    while i < n {
-        out[i] = table_sample(lookup, size, p, src[i]);
-        i += 1;
-    }
+    let m = src.len() - base;
+    let v = painting::load(m, src, base);
+    painting::store(m, words16(lookup, size, p, v), base, out);
 }
 
 // ---- by a table: a whole raster, with an output of its length
@@ -159,7 +151,71 @@ pub fn paint_by_table_simd(
     rest(lookup, size, p, src, base, out);
 }
 
-// ---- by the keys
+// ---- by keys that can be searched: the words of a block, a block of a raster, the samples after the last block, and a raster
+
+fn words_by_search(
+    narrow: &[i32; 256],
+    colors: &[u32; 256],
+    p: CategoricPaint,
+    v: [f32; 16],
+) -> [u32; 16]
+    ensures { λ d. ⌜ ((keys : List ℤ) (count : ℕ) → Narrow keys count (now (narrow .entry)) → take 16 d ≡ map (keySample keys (now (colors .entry)) count p) (take 16 v)) ⌝ }
+{
+    let c = key_search::colors_for_numeric_values(narrow, colors, p.nodata, v);
+    p.exclusions.masked_simd(16, v, p.nodata, c)
+}
+
+fn block_by_search(
+    narrow: &[i32; 256],
+    colors: &[u32; 256],
+    p: CategoricPaint,
+    src: &[f32],
+    base: usize,
+    out: &mut [u32],
+)
+    requires { ⌜ (base + 16 ≤ length (now src)) × (base + 16 ≤ length (now out)) ⌝ }
+    ensures { λ _. ⌜ ((keys : List ℤ) (count : ℕ) → Narrow keys count (now (narrow .entry)) → now (out .exit) ≡ chunkOver (map (keySample keys (now (colors .entry)) count p)) (now (src .entry)) (now (out .entry)) base 16) ⌝ }
+{
+    let v = painting::load(16, src, base);
+    painting::store(16, words_by_search(narrow, colors, p, v), base, out);
+}
+
+fn rest_by_search(
+    narrow: &[i32; 256],
+    colors: &[u32; 256],
+    p: CategoricPaint,
+    src: &[f32],
+    base: usize,
+    out: &mut [u32],
+)
+    requires { ⌜ (base ≤ length (now src)) × (length (now src) ≤ base + 16) × (length (now out) ≡ length (now src)) ⌝ }
+    ensures { λ _. ⌜ ((keys : List ℤ) (count : ℕ) → Narrow keys count (now (narrow .entry)) → now (out .exit) ≡ take base (now (out .entry)) ++ map (keySample keys (now (colors .entry)) count p) (drop base (now (src .entry)))) ⌝ }
+{
+    let m = src.len() - base;
+    let v = painting::load(m, src, base);
+    painting::store(m, words_by_search(narrow, colors, p, v), base, out);
+}
+
+fn paint_by_search(
+    narrow: &[i32; 256],
+    colors: &[u32; 256],
+    p: CategoricPaint,
+    src: &[f32],
+    out: &mut [u32],
+)
+    requires { ⌜ length (now out) ≡ length (now src) ⌝ }
+    ensures { λ _. ⌜ ((keys : List ℤ) (count : ℕ) → Narrow keys count (now (narrow .entry)) → now (out .exit) ≡ plainPainted (keySample keys (now (colors .entry)) count p) (now (src .entry))) ⌝ }
+{
+    let n = src.len();
+    let mut base: usize = 0;
+    while 16 <= n - base {
+        block_by_search(narrow, colors, p, src, base, out);
+        base += 16;
+    }
+    rest_by_search(narrow, colors, p, src, base, out);
+}
+
+// ---- by keys in any order: sample by sample
 
 fn key_sample(
     keys: &[i64; 256],
@@ -175,7 +231,7 @@ fn key_sample(
     p.exclusions.masked(value, p.nodata, color)
 }
 
-pub fn paint_by_keys(
+fn paint_by_scan(
     keys: &[i64; 256],
     colors: &[u32; 256],
     count: usize,
@@ -192,4 +248,27 @@ pub fn paint_by_keys(
         out[i] = key_sample(keys, colors, count, p, src[i]);
         i += 1;
     }
+}
+
+// ---- by the keys: a whole raster, with an output of its length
+
+// Keys as a builder leaves them are searched, and others scanned.
+pub fn paint_by_keys(
+    keys: &[i64; 256],
+    colors: &[u32; 256],
+    count: usize,
+    p: CategoricPaint,
+    src: &[f32],
+    out: &mut [u32],
+)
+    requires { ⌜ (count ≤ 256) × (length (now out) ≡ length (now src)) ⌝ }
+    ensures { λ _. ⌜ now (out .exit) ≡ plainPainted (keySample (now (keys .entry)) (now (colors .entry)) count p) (now (src .entry)) ⌝ }
+{
+    let search = key_search::searchable(keys, count);
+    if search {
+        let narrow = key_search::narrowed(keys, count);
+        paint_by_search(&narrow, colors, p, src, out);
+        return;
+    }
+    paint_by_scan(keys, colors, count, p, src, out);
 }

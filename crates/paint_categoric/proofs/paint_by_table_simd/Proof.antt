@@ -36,7 +36,9 @@ loop-again : tie.Need-loop-again Inv-loop μ-loop
 loop-again c = (refl, chunk-turn (c .before .before .before .before .before .loop .inv .1) (lane-sizes _ (c .before .before .before .before .before .before .before .before .pre .1) .0) (omega arith) (λ xs. length-masked _ _ xs _ (length-map xs _)) (c .before .before .chunk .ensures))
 
 rest-requires : tie.Need-rest-requires Inv-loop μ-loop
-rest-requires c κs = search needs
+rest-requires c κs =
+    let s = c .before .before .before .before .before in
+    (search needs, search needs, omega (arith, lane-sizes (s .args .l) (s .pre .1) .1), search needs)
 
 same-length : tie.Need-same-length Inv-loop μ-loop
 same-length c = search needs

@@ -1,69 +1,37 @@
 -- `rest` meets its contract. Assumes nothing.
 use borrow.Author.Needs.{needs}
 use native.Mathlib.Omega.{arith}
-use Prim.Native.Nat.{_-_}
-use mathlib.Core.Path.{_≡_, refl}
-use lib.ListN.{length, take, drop}
-use Rattle.painting.proofs.Steps.{Plainly, plain-turn, plain-end}
-use mathlib.Core.List.{map, _++_}
-use lib.Ieee.{nan}
-use Rattle.paint_categoric.specs.Rules.{tableSample}
+use mathlib.Core.Path.{_∙_}
+use lib.ListN.{take}
+use Rattle.painting.proofs.Masking.{masked-map}
+use Rattle.painting.proofs.Whole.{rest-is}
+use Rattle.paint_categoric.specs.Rules.{tableChunk}
 use Rattle.paint_categoric.proofs.rest.Statement.{statement}
 use Rattle.paint_categoric.proofs.rest.Tie as tie
 
-abbrev Inv-loop : tie.InvT-loop
-Inv-loop lookup size p src base out₀ n i₀ out i = (n ≡ length src) × Plainly (take base out₀ ++ map (tableSample lookup size p) (drop base src)) (tableSample lookup size p) src i out
+sub-m : tie.Need-sub-m
+sub-m c = search needs
 
-abbrev μ-loop : tie.MeasureT-loop
-μ-loop lookup size p src base out₀ n i₀ out i = n - i
+load-requires : tie.Need-load-requires
+load-requires c κs = search needs
 
-loop-holds : tie.Need-loop-holds Inv-loop μ-loop
-loop-holds c = (refl, record { upto = search needs; same = search needs; is = refl })
+words16-requires : tie.Need-words16-requires
+words16-requires c κs = search needs
 
-mul-table-sample : tie.Need-mul-table-sample Inv-loop μ-loop
-mul-table-sample c = search needs
+store-requires : tie.Need-store-requires
+store-requires c κs = search needs
 
-shared-slice-read-table-sample : tie.Need-shared-slice-read-table-sample Inv-loop μ-loop
-shared-slice-read-table-sample c = search needs
-
-table-sample-requires : tie.Need-table-sample-requires Inv-loop μ-loop
-table-sample-requires c κs = search needs
-
-mul-out : tie.Need-mul-out Inv-loop μ-loop
-mul-out c = search needs
-
-slice-write-out : tie.Need-slice-write-out Inv-loop μ-loop
-slice-write-out c = search needs
-
-add-i : tie.Need-add-i Inv-loop μ-loop
-add-i c = search needs
-
-loop-less : tie.Need-loop-less Inv-loop μ-loop
-loop-less c = search needs
-
-loop-again : tie.Need-loop-again Inv-loop μ-loop
-loop-again c = (refl, plain-turn nan (c .before .before .before .loop .inv .1) (omega arith) (c .table-sample .ensures))
-
-same-length : tie.Need-same-length Inv-loop μ-loop
+same-length : tie.Need-same-length
 same-length c = search needs
 
-returns : tie.Need-returns Inv-loop μ-loop
-returns c = plain-end (c .before .loop .inv .1) (omega arith)
+returns : tie.Need-returns
+returns c =
+    let w = c .before .before .before .before .words16 in
+    let l = c .before .before .before .before .before .load in
+    let a = c .before .before .before .before .before .before .before .before .args in
+    let plainly = _∙_ {b = tableChunk (a .lookup .now) (a .size) (a .p) (take 16 (l .result))} (w .ensures) (masked-map _ _ _ _) in
+    rest-is _ (a .src .now) (a .out .now) (a .base) 16 (w .result) (l .result) (omega arith) (omega arith) (omega arith) (c .before .before .store .ensures) plainly (l .ensures)
 
 pub rest-spec : {M : Type 1} → statement M
 rest-spec =
-    tie.close
-    (tie.spec
-    Inv-loop
-    μ-loop
-    loop-holds
-    mul-table-sample
-    shared-slice-read-table-sample
-    table-sample-requires
-    mul-out
-    slice-write-out
-    add-i
-    loop-less
-    loop-again
-    same-length
-    returns)
+    tie.close (tie.spec sub-m load-requires words16-requires store-requires same-length returns)
