@@ -100,18 +100,19 @@ module _ (p : Painter) (L : ℕ) where
   lane-output : {xs : List Float} {q q' s s' : List ℕ} {a : Answer} → LanePainting p L xs q s a q' s' → a ≡ Done → q' ≡ cond (p .simd) (lanePainted L (p .chunk) (p .plain) xs) (map (p .plain) xs)
   lane-output {xs} {q} P z = P .output ∙ when-done (cond (p .simd) (lanePainted L (p .chunk) (p .plain) xs) (map (p .plain) xs)) q z
 
-  module _ (Odd : Float → ℕ → ℕ → Type 0) (law : ChunkLaw L (p .chunk) (p .plain) Odd) where
+  -- the law is asked only of a legend with a rule for lanes
+  module _ (Odd : Float → ℕ → ℕ → Type 0) (law : p .simd ≡ true → ChunkLaw L (p .chunk) (p .plain) Odd) where
     -- at one pixel, with a rule for lanes or without
-    same-at : (b : Bool) (xs : List Float) (i : ℕ) → i < length xs
+    same-at : (b : Bool) → (b ≡ true → ChunkLaw L (p .chunk) (p .plain) Odd) → (xs : List Float) (i : ℕ) → i < length xs
         → (getD (cond b (lanePainted L (p .chunk) (p .plain) xs) (map (p .plain) xs)) i 0 ≡ p .plain (getD xs i nan))
         ⊎ ((i < full L (length xs)) × Odd (getD xs i nan) (getD (cond b (lanePainted L (p .chunk) (p .plain) xs) (map (p .plain) xs)) i 0) (p .plain (getD xs i nan)))
-    same-at true xs i l = same-painted L (p .chunk) (p .plain) Odd law xs i l
-    same-at false xs i l = inl (sym (getD-map-in (p .plain) xs i nan 0 l))
+    same-at true h xs i l = same-painted L (p .chunk) (p .plain) Odd (h refl) xs i l
+    same-at false h xs i l = inl (sym (getD-map-in (p .plain) xs i nan 0 l))
 
-    alone-at : (b : Bool) (xs ys : List Float) → length xs ≡ length ys → (i : ℕ) → i < length xs → getD xs i nan ≡ getD ys i nan
+    alone-at : (b : Bool) → (b ≡ true → ChunkLaw L (p .chunk) (p .plain) Odd) → (xs ys : List Float) → length xs ≡ length ys → (i : ℕ) → i < length xs → getD xs i nan ≡ getD ys i nan
         → getD (cond b (lanePainted L (p .chunk) (p .plain) xs) (map (p .plain) xs)) i 0 ≡ getD (cond b (lanePainted L (p .chunk) (p .plain) ys) (map (p .plain) ys)) i 0
-    alone-at true xs ys e i l g = alone-painted L (p .chunk) (p .plain) Odd law xs ys e i l g
-    alone-at false xs ys e i l g = sym (getD-map-in (p .plain) xs i nan 0 l) ∙ ap (p .plain) g ∙ getD-map-in (p .plain) ys i nan 0 (omega arith)
+    alone-at true h xs ys e i l g = alone-painted L (p .chunk) (p .plain) Odd (h refl) xs ys e i l g
+    alone-at false h xs ys e i l g = sym (getD-map-in (p .plain) xs i nan 0 l) ∙ ap (p .plain) g ∙ getD-map-in (p .plain) ys i nan 0 (omega arith)
 
     pub chunking : Chunking p L Odd
     chunking =
@@ -122,7 +123,7 @@ module _ (p : Painter) (L : ℕ) where
               ⊎-elim
               (λ e. inl (v ∙ e ∙ sym u))
               (λ e. inr (e .0, subst (Odd (getD xs i nan) (getD q' i 0)) (sym u) (subst (λ (w : ℕ). Odd (getD xs i nan) w (p .plain (getD xs i nan))) (sym v) (e .1))))
-              (same-at (p .simd) xs i l);
+              (same-at (p .simd) law xs i l);
           alone = λ xs ys q q' s s' a r r' t t' b P Q y z e i l g.
-              ap (λ w. getD w i 0) (lane-output P y) ∙ alone-at (p .simd) xs ys e i l g ∙ sym (ap (λ w. getD w i 0) (lane-output Q z));
+              ap (λ w. getD w i 0) (lane-output P y) ∙ alone-at (p .simd) law xs ys e i l g ∙ sym (ap (λ w. getD w i 0) (lane-output Q z));
         }

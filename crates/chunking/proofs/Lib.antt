@@ -1,0 +1,3 @@
+-- The chunking rule; the law of a chunk, for each kind, that it rests on; and what shows that its conditions are met and needed.
+pub mod Demand3
+mod ChunkLaws
