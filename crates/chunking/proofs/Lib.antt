@@ -1,3 +1,5 @@
 -- The chunking rule; the law of a chunk, for each kind, that it rests on; and what shows that its conditions are met and needed.
 pub mod Demand3
+pub mod AllHold
+pub mod Witnesses
 mod ChunkLaws

@@ -1,0 +1,87 @@
+-- That the conditions are met, and needed: lists of bands that keep all of them or all but some, with the chunk of four samples whose first shows it. Definitions only.
+use Prim.Native.Nat.{ℕ}
+use mathlib.Core.Bool.{Bool, true, false, not, _&&_}
+use mathlib.Core.List.{List, [], _∷_, map}
+use lib.Dec.{eqb}
+use lib.Ieee.{Float, nan, binary32, ofBits}
+use lib.ListN.{getD}
+use Rattle.colormapper.specs.declared.UnmappableColors.{UnmappableColors}
+use Rattle.bands.specs.declared.LegendBand.{LegendBand}
+use Rattle.bands.specs.PlainRule.{plainColor}
+use Rattle.bands.specs.LaneRule.{laneColors}
+use Rattle.bands.specs.Sound.{finiteBand, startsBelowEnd, ascends, clears, wideBand, eachBand, eachNext, firstAndLast}
+
+-- which conditions a list keeps
+pub record Kept : Type 0 where
+  pub finite : Bool
+  pub starts : Bool
+  pub ascending : Bool
+  pub apart : Bool
+  pub wide : Bool
+
+abbrev pub keptBy : List LegendBand → Kept
+keptBy bands =
+    record {
+      finite = eachBand finiteBand bands;
+      starts = eachBand startsBelowEnd bands;
+      ascending = eachNext ascends bands;
+      apart = eachNext clears bands;
+      wide = firstAndLast wideBand bands;
+    }
+
+abbrev pub sameBool : Bool → Bool → Bool
+sameBool true b = b
+sameBool false b = not b
+
+abbrev pub sameKept : Kept → Kept → Bool
+sameKept x y = (((sameBool (x .finite) (y .finite) && sameBool (x .starts) (y .starts)) && sameBool (x .ascending) (y .ascending)) && sameBool (x .apart) (y .apart)) && sameBool (x .wide) (y .wide)
+
+-- an f32 by its bits
+abbrev f32 : ℕ → Float
+f32 bits = ofBits binary32 bits
+
+abbrev band : (start end color : ℕ) → LegendBand
+band start end color = record { start = f32 start; end = f32 end; color = color }
+
+abbrev colors : UnmappableColors
+colors = record { nodata = 9; low = 8; high = 7 }
+
+-- a list, the conditions that it keeps, a chunk, and whether the chunk's first colour is the plain one
+pub record Case : Type 0 where
+  pub bands : List LegendBand
+  pub kept : Kept
+  pub chunk : List ℕ
+  pub agrees : Bool
+
+unfoldable pub holds : Case → Bool
+holds c = sameKept (keptBy (c .bands)) (c .kept) && sameBool (eqb (getD (laneColors (c .bands) colors (map f32 (c .chunk))) 0 0) (plainColor (c .bands) colors (f32 (getD (c .chunk) 0 0)))) (c .agrees)
+
+unfoldable pub allHold : List Case → Bool
+allHold [] = true
+allHold (c ∷ cs) = holds c && allHold cs
+
+abbrev all : Kept
+all = record { finite = true; starts = true; ascending = true; apart = true; wide = true }
+
+abbrev but-apart : Kept
+but-apart = record { finite = true; starts = true; ascending = true; apart = false; wide = true }
+
+abbrev but-wide : Kept
+but-wide = record { finite = true; starts = true; ascending = true; apart = true; wide = false }
+
+abbrev but-starts : Kept
+but-starts = record { finite = true; starts = false; ascending = false; apart = true; wide = true }
+
+unfoldable pub cases : List Case
+cases =
+    -- 0 to 1 and 2 to 3 keep all: 0.5 beside 7
+    record { bands = band 0x0000_0000 0x3F80_0000 1 ∷ band 0x4000_0000 0x4040_0000 2 ∷ []; kept = all; chunk = 0x3F00_0000 ∷ 0x40E0_0000 ∷ 0x40E0_0000 ∷ 0x40E0_0000 ∷ []; agrees = true }
+    -- 0 to 2 and 1 to 3 overlap: 1.5 beside 2.5
+    ∷ record { bands = band 0x0000_0000 0x4000_0000 1 ∷ band 0x3F80_0000 0x4040_0000 2 ∷ []; kept = but-apart; chunk = 0x3FC0_0000 ∷ 0x4020_0000 ∷ 0x4020_0000 ∷ 0x4020_0000 ∷ []; agrees = false }
+    -- the first band, 0 to 0.00005, is narrower than E: 0.00006 beside 7
+    ∷ record { bands = band 0x0000_0000 0x3851_B717 1 ∷ band 0x3851_B717 0x3F80_0000 2 ∷ []; kept = but-wide; chunk = 0x387B_A882 ∷ 0x40E0_0000 ∷ 0x40E0_0000 ∷ 0x40E0_0000 ∷ []; agrees = false }
+    -- the last band, 1 to 1.00005, is narrower than E: 0.99997 beside 7
+    ∷ record { bands = band 0x0000_0000 0x3F80_0000 1 ∷ band 0x3F80_0000 0x3F80_01A3 2 ∷ []; kept = but-wide; chunk = 0x3F7F_FE09 ∷ 0x40E0_0000 ∷ 0x40E0_0000 ∷ 0x40E0_0000 ∷ []; agrees = false }
+    -- 0 to 2, then 5 to 1, which ends below its start, then 1 to 3: 1.5 beside 2.5
+    ∷ record { bands = band 0x0000_0000 0x4000_0000 1 ∷ band 0x40A0_0000 0x3F80_0000 2 ∷ band 0x3F80_0000 0x4040_0000 3 ∷ []; kept = but-starts; chunk = 0x3FC0_0000 ∷ 0x4020_0000 ∷ 0x4020_0000 ∷ 0x4020_0000 ∷ []; agrees = false }
+    ∷ []
