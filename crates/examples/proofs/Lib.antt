@@ -1,1 +1,2 @@
 pub mod AllHold
+pub mod AllGiven
