@@ -1,8 +1,8 @@
 -- From what the parts of a call promise to the two whole contracts, for samples of any type: xs are the samples as f32, of which the raster has n. Assumes nothing.
 use mathlib.Core.Path.{_≡_, sym, ap, _∙_}
-use mathlib.Core.Bool.{Bool, true, cond}
+use mathlib.Core.Bool.{Bool, cond}
 use mathlib.Core.List.{List}
-use Prim.Native.Nat.{ℕ, _≤_, _<_}
+use Prim.Native.Nat.{ℕ}
 use native.Mathlib.Omega.{arith}
 use lib.Ieee.{Float}
 use lib.ListN.{length}
@@ -12,7 +12,7 @@ use Rattle.refusal.specs.declared.Answer.the-variants.{Done, Refused}
 use Rattle.refusal.proofs.Outcomes.{when-done}
 use Rattle.cast.specs.declared.Nodata.{Nodata}
 use Rattle.painting.specs.Painted.{plainPainted, lanePainted, scratchAfter}
-use Rattle.painting.specs.Contracts.{Painter, PlainPainting, LanePainting, plainRefusal, laneRefusal, laneCount}
+use Rattle.painting.specs.Contracts.{Painter, PlainPainting, LanePainting, plainRefusal, laneRefusal}
 use Rattle.painting.proofs.Refusals.{Free, plain-free, lane-free, lane-sizes}
 use Rattle.painting.proofs.Whole.{plain-refused, plain-done, lane-refused}
 use Rattle.legend.specs.declared.Legend.{Legend}
@@ -20,7 +20,7 @@ use Rattle.legend.specs.Record.{storedRefusal, simdSupported}
 use Rattle.legend.specs.Painters.{painter}
 use Rattle.legend.proofs.AnyKind.{stored-is, simd-is}
 use Rattle.apply.specs.Painting.{painted}
-use Rattle.apply.proofs.Lanes.{painted-plain, painted-lanes}
+use Rattle.apply.proofs.Lanes.{painted-lanes}
 
 module _ (l : Legend) (nodata : Nodata) (xs : List Float) (out : List ℕ) (n : ℕ) (m : n ≡ length xs) (s a : Answer) (stored : s ≡ storedRefusal l) where
   abbrev p : Painter

@@ -6,15 +6,13 @@ use mathlib.Core.List.{List, map}
 use Prim.Native.Nat.{ℕ, _<_}
 use native.Mathlib.Omega.{arith}
 use borrow.Author.Tests.{ltb-true}
-use lib.Dec.{T, ltb}
-use lib.Ieee.{Float, nan, isNan, eq, lt, fits, binary32}
+use lib.Dec.{T}
+use lib.Ieee.{Float, nan, isNan}
 use lib.ListN.{length, getD, length-map}
 use Rattle.cast.specs.declared.Nodata.{Nodata}
-use Rattle.floats.specs.RampIndex.{nought}
 use Rattle.colormapper.specs.Unmappable.{isNodata, unmappable}
 use Rattle.painting.specs.Masked.{masked, maskedColor}
 use Rattle.painting.specs.Chunking.{ChunkLaw}
-use Rattle.painting.specs.Contracts.{Painter}
 use Rattle.painting.proofs.Lists.{getD-map-in}
 use Rattle.painting.proofs.Masking.{length-masked, getD-masked, masked-map}
 use Rattle.linear.specs.Made.{linearColors}
@@ -22,7 +20,6 @@ use Rattle.linear.specs.Rule as linear
 use Rattle.linear.proofs.LaneLaw as linear-law
 use Rattle.bands.specs.PlainRule as bands
 use Rattle.bands.specs.LaneRule as lanes
-use Rattle.bands.specs.Sound.{Sound}
 use Rattle.bands.proofs.LaneLaw as band-law
 use Rattle.banded.specs.Record.{counted}
 use Rattle.banded.specs.Unmappable.{bandedUnmappable}

@@ -3,7 +3,7 @@ use mathlib.Core.Path.{_≡_}
 use mathlib.Core.Bool.{true}
 use Prim.Native.Nat.{ℕ}
 use Rattle.cast.specs.declared.Nodata.{Nodata}
-use Rattle.painting.specs.Chunking.{ChunkLaw, Chunking}
+use Rattle.painting.specs.Chunking.{ChunkLaw}
 use Rattle.painting.proofs.Chunks.{chunking}
 use Rattle.legend.specs.declared.Legend.{Legend}
 use Rattle.legend.specs.Painters.{painter}

@@ -1,10 +1,10 @@
 -- The conditions of the rule are met: a legend of each kind. And that bands ascend follows from the other conditions. Assumes nothing.
-use mathlib.Core.Path.{_≡_, refl}
-use mathlib.Core.Bool.{Bool, true, false, not, _&&_}
+use mathlib.Core.Path.{refl}
+use mathlib.Core.Bool.{not}
 use mathlib.Core.List.{List, [], _∷_}
 use Prim.Native.Nat.{ℕ}
-use lib.Dec.{T, T-not, not-T}
-use lib.Ieee.{Float, binary32, lt, le, add, sub, fits, ofBits, isNan}
+use lib.Dec.{T, not-T}
+use lib.Ieee.{binary32, lt, le, add, sub, fits, ofBits, isNan}
 use lib.Ieee.Fits.{and-i, and-l, and-r}
 use lib.Ieee.Scale.{finite}
 use lib.ListN.{replicate}
@@ -14,7 +14,7 @@ use Rattle.lists.specs.Padded.{padded}
 use Rattle.colormapper.specs.Settings.{noSettings}
 use Rattle.bands.specs.declared.LegendBand.{LegendBand}
 use Rattle.bands.specs.Band.{lastOf}
-use Rattle.bands.specs.Sound.{finiteBand, startsBelowEnd, ascends, clears, eachBand, eachAfter, eachNext, firstAndLast, Sound}
+use Rattle.bands.specs.Sound.{finiteBand, startsBelowEnd, ascends, clears, eachBand, eachAfter, eachNext, firstAndLast}
 use Rattle.banded.specs.Record.{bandedOf}
 use Rattle.catgegoric.specs.Made.{emptyCategoric}
 use Rattle.legend.specs.Record.{linearLegend, bandedLegend, categoricLegend}

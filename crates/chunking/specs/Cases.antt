@@ -3,7 +3,7 @@ use Prim.Native.Nat.{ℕ}
 use mathlib.Core.Bool.{Bool, true, false, not, _&&_}
 use mathlib.Core.List.{List, [], _∷_, map}
 use lib.Dec.{eqb}
-use lib.Ieee.{Float, nan, binary32, ofBits}
+use lib.Ieee.{Float, binary32, ofBits}
 use lib.ListN.{getD}
 use Rattle.colormapper.specs.declared.UnmappableColors.{UnmappableColors}
 use Rattle.bands.specs.declared.LegendBand.{LegendBand}

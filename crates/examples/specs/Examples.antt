@@ -1,5 +1,5 @@
 -- The twelve examples of docs/RULES.md, in one table. Each row asks the definitions for a number: a colour's word, or a count. Definitions only.
-use mathlib.Core.Bool.{Bool, true, false, _&&_}
+use mathlib.Core.Bool.{Bool, true, _&&_}
 use mathlib.Core.List.{List, [], _∷_, map}
 use Prim.Native.Nat.{ℕ}
 use lib.Dec.{eqb}

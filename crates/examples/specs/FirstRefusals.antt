@@ -19,7 +19,7 @@ use Rattle.banded.specs.declared.ValueRange.{ValueRange}
 use Rattle.banded.specs.Record.{bandedRefusal}
 use Rattle.banded.specs.EqualBands.{withEqualBands}
 use Rattle.banded.specs.ManualRanges.{withManualRanges}
-use Rattle.catgegoric.specs.Made.{forValues, forValueRange, emptyCategoric}
+use Rattle.catgegoric.specs.Made.{forValues, forValueRange}
 use Rattle.painting.specs.Contracts.{plainRefusal, laneRefusal}
 use Rattle.legend.specs.Record.{categoricLegend}
 use Rattle.legend.specs.ValueRanges.{rangeRefusal}

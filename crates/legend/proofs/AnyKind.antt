@@ -1,7 +1,6 @@
 -- What holds of a legend's painter whatever its kind. Assumes nothing.
-use mathlib.Core.Path.{_≡_, refl, _∙_}
+use mathlib.Core.Path.{_≡_, refl}
 use mathlib.Core.List.{List}
-use Prim.Native.Nat.{ℕ}
 use lib.Ieee.{Float}
 use lib.ListN.{length, length-map}
 use Rattle.cast.specs.declared.Nodata.{Nodata}

@@ -1,11 +1,9 @@
 -- The whole range of a legend's values (docs/RULES.md, "Painting"). Definitions only.
-use Prim.Native.Nat.{ℕ}
 use mathlib.Core.List.{List, [], _∷_}
 use lib.IntN.{ℤ}
 use lib.Ieee.{Float, binary32, ofInt}
 use lib.ListN.{take}
 use Rattle.floats.specs.RampIndex.{nought}
-use Rattle.refusal.specs.declared.Refusal.{Refusal}
 use Rattle.refusal.specs.declared.Answer.{Answer}
 use Rattle.refusal.specs.declared.Answer.the-variants as answer
 use Rattle.refusal.specs.Outcome.{firstOf}

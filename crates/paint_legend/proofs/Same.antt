@@ -1,5 +1,5 @@
 -- What the painters of each kind are handed is what the legend's painter says: the sample's rule and the chunk's. Assumes nothing.
-use mathlib.Core.Path.{_≡_, sym, ap, ap₂, subst, fun-ext, _∙_}
+use mathlib.Core.Path.{_≡_, sym, ap, ap₂, fun-ext, _∙_}
 use mathlib.Core.Bool.{Bool, cond}
 use mathlib.Core.List.{List, map}
 use Prim.Native.Nat.{ℕ, _≤_, _<_}

@@ -1,11 +1,11 @@
 -- Painting a raster block by block, by a painting that splits at a block's end: its loop's invariant, the first turn, each turn and the end. Assumes nothing.
 use mathlib.Core.Path.{_≡_, refl, sym, ap, _∙_}
 use mathlib.Core.List.{List, _++_, append-assoc}
-use Prim.Native.Nat.{ℕ, _+_, _≤_, _<_}
+use Prim.Native.Nat.{ℕ, _+_, _≤_}
 use native.Mathlib.Omega.{arith}
 use lib.Ieee.{Float}
 use lib.ListN.{length, take, drop, length-append, length-drop, take-append-drop}
-use lib.Seq.{take-at, drop-drop, length-take-le, take-all}
+use lib.Seq.{take-at, drop-drop, length-take-le}
 
 -- a painting of whole rasters that splits after N samples
 pub record Splits (N : ℕ) (paint : List Float → List ℕ) : Type 0 where

@@ -1,13 +1,13 @@
 -- Lists and lanes, for any painter. Assumes nothing.
-use mathlib.Core.Path.{_≡_, refl, sym, ap, subst, _∙_}
-use mathlib.Core.List.{List, [], _∷_, _++_, map, append-assoc, append-nil}
+use mathlib.Core.Path.{_≡_, refl, sym, ap, _∙_}
+use mathlib.Core.List.{List, [], _∷_, map}
 use Prim.Native.Nat.{ℕ, zero, suc, _+_, _≤_, _<_}
 use native.Mathlib.Nat.{le-of-suc-le-suc, not-suc-le-zero, zero-lt-suc, le-antisymm}
 use native.Mathlib.Numerals.{add-one}
 use native.Mathlib.Omega.{arith}
-use lib.ListN.{length, take, drop, getD, set, length-append, length-take, length-drop, length-set, length-map, drop-of-length-le}
+use lib.ListN.{length, take, drop, getD, set, length-drop, length-set}
 use Rattle.lists.specs.Lanes.{Lanes}
-use lib.Seq.{getD-set-same, getD-set-other, getD-take, getD-drop, ext-getD, take-suc-set, drop-cons, take-all, take-take, drop-length, take-at, length-take-le, paste, paste-zero, paste-suc}
+use lib.Seq.{getD-drop, take-take, paste, paste-zero, paste-suc}
 
 -- all lanes below l, as a list
 pub lanes-list : {A B : Type 0} (y : A) (z : B) (f : A → B) (l : ℕ) (r : List B) (xs : List A) → l ≤ length r → l ≤ length xs → Lanes z l r (λ k. f (getD xs k y)) → take l r ≡ map f (take l xs)

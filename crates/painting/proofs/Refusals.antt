@@ -1,9 +1,9 @@
 -- The rows of a painting's refusals, from what each test of the code found; and what follows where nothing is refused. Assumes nothing.
-use mathlib.Core.Path.{_≡_, refl, sym, ap, _∙_, subst}
+use mathlib.Core.Path.{_≡_, refl, sym, ap, subst}
 use mathlib.Core.Bool.{Bool, true, false, not, _||_}
 use Prim.Native.Nat.{ℕ, _≤_, _<_}
 use native.Mathlib.Omega.{arith}
-use borrow.Author.Tests.{eqb-true, eqb-false, ltb-false, not-false, ne-eqb}
+use borrow.Author.Tests.{eqb-true, ltb-false, not-false, ne-eqb}
 use lib.Dec.{T, ltb, eqb}
 use Rattle.refusal.specs.declared.Refusal.{Refusal}
 use Rattle.refusal.specs.declared.Refusal.the-variants.{OutputLengthDiffers, NoSuchLaneCount, ScratchTooShort}

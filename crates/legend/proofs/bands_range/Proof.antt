@@ -2,9 +2,7 @@
 use mathlib.Core.Path.{_≡_}
 use native.Mathlib.Omega.{arith}
 use lib.ListN.{length}
-use lib.Ieee.{nan}
 use Rattle.legend.proofs.Ranging.{bands-none, bands-from-to}
-use Rattle.legend.specs.ValueRanges.{bandsRange}
 use Rattle.banded.proofs.Past.{noBand}
 use borrow.Author.Needs.{needs}
 use Rattle.legend.proofs.bands_range.Statement.{statement}
