@@ -37,7 +37,10 @@ enum {
     LEGEND_NO_SUCH_LANE_COUNT = 14,
     LEGEND_SCRATCH_TOO_SHORT = 15,
     LEGEND_COUNT_ABOVE_CAPACITY = 16,
-    LEGEND_KEY_OUT_OF_RANGE = 17 /* index: the first such key, from 0 */
+    LEGEND_KEY_OUT_OF_RANGE = 17, /* index: the first such key, from 0 */
+    /* This interface's own, before any of the others: flags first, then the kind. */
+    LEGEND_BAD_FLAG = 100, /* a flag that is neither 0 nor 1 */
+    LEGEND_BAD_KIND = 101  /* a kind that is none of 0, 1, 2 */
 };
 
 /* A call's answer: LEGEND_DONE or a refusal's number. `indexed` is 1 where the refusal has an index, else 0 with the
@@ -101,6 +104,170 @@ typedef struct LegendKey {
 
 /* A sample truncated toward zero; none for NaN, below -2^63, and from 2^63 on. */
 LegendKey legend_to_i64(float sample);
+
+/* ---- Legends ---- */
+
+/* The settings of a legend. The last three are flags, 0 or 1: the low colour counts where has_low is 1, the high colour
+ * where has_high is 1, and where zero_is_nodata is 1 a sample of 0 gets the nodata colour. All 0 are the plain settings. */
+typedef struct LegendSettings {
+    uint32_t nodata_color;
+    uint32_t low_color;
+    uint32_t high_color;
+    uint32_t has_low;
+    uint32_t has_high;
+    uint32_t zero_is_nodata;
+} LegendSettings;
+
+/* A range of values over a ramp. */
+typedef struct LegendLinear {
+    float start;
+    float end;
+    uint32_t cmap[256];
+} LegendLinear;
+
+/* A band: from its start up to, but not at, its end. */
+typedef struct LegendBand {
+    float start;
+    float end;
+    uint32_t color;
+} LegendBand;
+
+/* The first `count` bands. */
+typedef struct LegendBanded {
+    LegendBand bands[64];
+    size_t count;
+} LegendBanded;
+
+/* The first `count` keys, ascending, with their colours, and the table's first `lookup_count` words: none where there is
+ * no table. */
+typedef struct LegendCategoric {
+    int64_t keys[256];
+    uint32_t colors[256];
+    size_t count;
+    uint32_t lookup[513];
+    size_t lookup_count;
+} LegendCategoric;
+
+enum {
+    LEGEND_LINEAR = 0,
+    LEGEND_BANDED = 1,
+    LEGEND_CATEGORIC = 2
+};
+
+/* A legend: its kind, its settings, and three records, of which that of the kind alone counts. A caller may fill one in
+ * by hand; a count above its capacity is refused (16) where the legend is used. */
+typedef struct LegendRecord {
+    uint32_t kind;
+    LegendSettings settings;
+    LegendLinear linear;
+    LegendBanded banded;
+    LegendCategoric categoric;
+} LegendRecord;
+
+/* A legend that was asked for; beside a refusal the empty one: linear, from 0 to 0, every colour 0. */
+typedef struct LegendMade {
+    LegendAnswer answer;
+    LegendRecord legend;
+} LegendMade;
+
+/* The first `count` ranges, each from its start up to its end. */
+typedef struct LegendRange {
+    float start;
+    float end;
+} LegendRange;
+
+typedef struct LegendRanges {
+    LegendRange ranges[64];
+    size_t count;
+} LegendRanges;
+
+/* ---- Builders ----
+ *
+ * Each is refused by 100 for a flag of its settings; then as its line says. Colours come as a list, or as a ramp by the
+ * names that say so. The settings of the legend made are those given, with the colour 0 where a flag is 0. */
+
+/* Linear, from start to end. From a list, refused: 4, 5, 7. From a ramp: 7. */
+LegendMade legend_create_linear(const uint32_t *colors, size_t colors_count, float start, float end,
+                                LegendSettings settings);
+LegendMade legend_create_linear_from_ramp(const uint32_t ramp[256], float start, float end, LegendSettings settings);
+
+/* `count` bands of equal width. Refused: 7, 8; from a list 9 too. */
+LegendMade legend_create_banded(size_t count, const uint32_t *colors, size_t colors_count, float start, float end,
+                                LegendSettings settings);
+LegendMade legend_create_banded_from_ramp(size_t count, const uint32_t ramp[256], float start, float end,
+                                          LegendSettings settings);
+
+/* A band for each range. Refused: 8, 10; from a list 9 too. */
+LegendMade legend_create_banded_manual_ranges(const uint32_t *colors, size_t colors_count, LegendRanges ranges,
+                                              LegendSettings settings);
+LegendMade legend_create_banded_manual_ranges_from_ramp(const uint32_t ramp[256], LegendRanges ranges,
+                                                        LegendSettings settings);
+
+/* These bands, in their order. Refused: 8. */
+LegendMade legend_create_banded_as_given(const LegendBand *bands, size_t bands_count, LegendSettings settings);
+
+/* A category for each value; of equal values the last one's colour stays. Refused: 11, 17; from a list 9 too, before 17. */
+LegendMade legend_create_categoric_for_value_list(const uint32_t *colors, size_t colors_count, const int64_t *values,
+                                                  size_t values_count, LegendSettings settings);
+LegendMade legend_create_categoric_for_value_list_from_ramp(const uint32_t ramp[256], const int64_t *values,
+                                                            size_t values_count, LegendSettings settings);
+
+/* A category for each whole number from start to end, both included. Refused: 12, 11, 17; from a list 9 too, before 17. */
+LegendMade legend_create_categoric_for_value_range(const uint32_t *colors, size_t colors_count, int64_t start,
+                                                   int64_t end, LegendSettings settings);
+LegendMade legend_create_categoric_for_value_range_from_ramp(const uint32_t ramp[256], int64_t start, int64_t end,
+                                                             LegendSettings settings);
+
+/* ---- Uses of a legend ----
+ *
+ * Each is refused by 100 for a flag of the legend, by 101 for its kind, by 100 for `nodata_given` where there is one,
+ * by 16 for a stored count; then as its line says. `nodata` counts where `nodata_given` is 1. */
+
+/* The colour of one sample, by the rule of plain painting. */
+LegendColor legend_color_for_f32(LegendRecord legend, float value, uint32_t nodata_given, float nodata);
+LegendColor legend_color_for_u8(LegendRecord legend, uint8_t value, uint32_t nodata_given, uint8_t nodata);
+LegendColor legend_color_for_i16(LegendRecord legend, int16_t value, uint32_t nodata_given, int16_t nodata);
+
+/* Plain painting: out[i] is the colour of src[i]. Beside a refusal out is as it was. Refused: 13. src and out do not
+ * overlap. */
+LegendAnswer legend_paint_f32(LegendRecord legend, const float *src, size_t src_length, uint32_t nodata_given,
+                              float nodata, uint32_t *out, size_t out_length);
+LegendAnswer legend_paint_u8(LegendRecord legend, const uint8_t *src, size_t src_length, uint32_t nodata_given,
+                             uint8_t nodata, uint32_t *out, size_t out_length);
+LegendAnswer legend_paint_i16(LegendRecord legend, const int16_t *src, size_t src_length, uint32_t nodata_given,
+                              int16_t nodata, uint32_t *out, size_t out_length);
+
+/* Painting in 4, 8 or 16 lanes: whole chunks by the rule of lanes, what is left of the raster plainly. Scratch needs 16
+ * words; its first `lanes` words then hold the colours of the last whole chunk, where there was one. Beside a refusal
+ * out and scratch are as they were. Refused: 14, 15, 13. src, out and scratch do not overlap. */
+LegendAnswer legend_paint_lanes_f32(LegendRecord legend, size_t lanes, const float *src, size_t src_length,
+                                    uint32_t nodata_given, float nodata, uint32_t *out, size_t out_length,
+                                    uint32_t *scratch, size_t scratch_length);
+LegendAnswer legend_paint_lanes_u8(LegendRecord legend, size_t lanes, const uint8_t *src, size_t src_length,
+                                   uint32_t nodata_given, uint8_t nodata, uint32_t *out, size_t out_length,
+                                   uint32_t *scratch, size_t scratch_length);
+LegendAnswer legend_paint_lanes_i16(LegendRecord legend, size_t lanes, const int16_t *src, size_t src_length,
+                                    uint32_t nodata_given, int16_t nodata, uint32_t *out, size_t out_length,
+                                    uint32_t *scratch, size_t scratch_length);
+
+/* The whole range of a legend's values, 0 and 0 beside a refusal, and where there are none. */
+typedef struct LegendValueRange {
+    LegendAnswer answer;
+    float start;
+    float end;
+} LegendValueRange;
+
+/* Refused: 17 for a stored key. */
+LegendValueRange legend_total_value_range(LegendRecord legend);
+
+/* A legend's 256 colours from its lowest to its highest value, all 0 beside a refusal. */
+typedef struct LegendColorList {
+    LegendAnswer answer;
+    uint32_t colors[256];
+} LegendColorList;
+
+/* Refused: 17 for a stored key. */
+LegendColorList legend_color_list(LegendRecord legend);
 
 #ifdef __cplusplus
 }

@@ -22,6 +22,7 @@ ghost use Rattle.catgegoric.specs.Steps.{place, movedUp, Holds};
 ghost use Rattle.catgegoric.specs.Made.{emptyCategoric, recordOf, madeUnless, manyRefusal, valuesRefusal, forValues, forValuesFromRamp, wideRefusal, rangeRefusal, forValueRange, forValueRangeFromRamp, categoricRefusal, categoricColors};
 
 // The first `count` keys, ascending, with their colours, and the table's first `lookup_count` words. Other places are 0.
+#[repr(C)]
 pub struct CategoricNumeric {
     pub keys: [i64; 256],
     pub colors: [u32; 256],

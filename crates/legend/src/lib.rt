@@ -148,7 +148,7 @@ fn made_linear(made: MadeLinear, config: MappingConfig) -> MadeLegend
     }
 }
 
-fn made_banded(made: MadeBanded, config: MappingConfig) -> MadeLegend
+pub fn made_banded(made: MadeBanded, config: MappingConfig) -> MadeLegend
     ensures { λ r. ⌜ r ≡ madeBanded made config ⌝ }
 {
     let answer = made.answer;

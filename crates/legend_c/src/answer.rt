@@ -20,7 +20,7 @@ pub fn told(a: Answer) -> LegendAnswer
     placed(number, a.index())
 }
 
-fn placed(number: u32, i: Index) -> LegendAnswer
+pub fn placed(number: u32, i: Index) -> LegendAnswer
     ensures { λ r. ⌜ r ≡ place number i ⌝ }
 {
     match i {

@@ -15,6 +15,7 @@ ghost use Rattle.linear.specs.Rule.{byRange, plainColor, laneColor};
 ghost use Rattle.linear.specs.Made.{emptyLinear, rangeRefusal, linearOfRamp, linearOfList, linearColors};
 
 // A range of values and the ramp that it is coloured by.
+#[repr(C)]
 pub struct Linear {
     pub start: f32,
     pub end: f32,

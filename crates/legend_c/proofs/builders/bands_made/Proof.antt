@@ -1,0 +1,29 @@
+-- `builders::bands_made` meets its contract. Assumes nothing.
+use borrow.Author.Needs.{needs}
+use Rattle.legend_c.proofs.builders.bands_made.Statement.{statement}
+use Rattle.legend_c.proofs.builders.bands_made.Tie as tie
+
+settings-of-requires : tie.Need-settings-of-requires
+settings-of-requires c κs = search needs
+
+made-banded-requires : tie.Need-made-banded-requires
+made-banded-requires c κs = search needs
+
+settings-form-requires : tie.Need-settings-form-requires
+settings-form-requires c κs = search needs
+
+made-unless-requires : tie.Need-made-unless-requires
+made-unless-requires c κs = search needs
+
+returns : tie.Need-returns
+returns c = cc
+
+pub bands-made-spec : {M : Type 1} → statement M
+bands-made-spec =
+    tie.close
+    (tie.spec
+    settings-of-requires
+    made-banded-requires
+    settings-form-requires
+    made-unless-requires
+    returns)

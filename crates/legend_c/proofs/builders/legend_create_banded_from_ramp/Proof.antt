@@ -1,0 +1,29 @@
+-- `builders::legend_create_banded_from_ramp` meets its contract. Assumes nothing.
+use borrow.Author.Needs.{needs}
+use Rattle.legend_c.proofs.builders.legend_create_banded_from_ramp.Statement.{statement}
+use Rattle.legend_c.proofs.builders.legend_create_banded_from_ramp.Tie as tie
+
+settings-of-requires : tie.Need-settings-of-requires
+settings-of-requires c κs = search needs
+
+create-banded-from-ramp-requires : tie.Need-create-banded-from-ramp-requires
+create-banded-from-ramp-requires c κs = search needs
+
+settings-form-requires : tie.Need-settings-form-requires
+settings-form-requires c κs = search needs
+
+made-unless-requires : tie.Need-made-unless-requires
+made-unless-requires c κs = search needs
+
+returns : tie.Need-returns
+returns c = cc
+
+pub legend-create-banded-from-ramp-spec : {M : Type 1} → statement M
+legend-create-banded-from-ramp-spec =
+    tie.close
+    (tie.spec
+    settings-of-requires
+    create-banded-from-ramp-requires
+    settings-form-requires
+    made-unless-requires
+    returns)

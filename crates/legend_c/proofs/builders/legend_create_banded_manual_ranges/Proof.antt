@@ -1,0 +1,31 @@
+-- `builders::legend_create_banded_manual_ranges` meets its contract. Assumes nothing.
+use borrow.Author.Needs.{needs}
+use Rattle.legend_c.proofs.builders.legend_create_banded_manual_ranges.Statement.{
+  statement,
+}
+use Rattle.legend_c.proofs.builders.legend_create_banded_manual_ranges.Tie as tie
+
+settings-of-requires : tie.Need-settings-of-requires
+settings-of-requires c κs = search needs
+
+create-banded-manual-ranges-requires : tie.Need-create-banded-manual-ranges-requires
+create-banded-manual-ranges-requires c κs = search needs
+
+settings-form-requires : tie.Need-settings-form-requires
+settings-form-requires c κs = search needs
+
+made-unless-requires : tie.Need-made-unless-requires
+made-unless-requires c κs = search needs
+
+returns : tie.Need-returns
+returns c = cc
+
+pub legend-create-banded-manual-ranges-spec : {M : Type 1} → statement M
+legend-create-banded-manual-ranges-spec =
+    tie.close
+    (tie.spec
+    settings-of-requires
+    create-banded-manual-ranges-requires
+    settings-form-requires
+    made-unless-requires
+    returns)

@@ -1,0 +1,31 @@
+-- `builders::legend_create_categoric_for_value_list` meets its contract. Assumes nothing.
+use borrow.Author.Needs.{needs}
+use Rattle.legend_c.proofs.builders.legend_create_categoric_for_value_list.Statement.{
+  statement,
+}
+use Rattle.legend_c.proofs.builders.legend_create_categoric_for_value_list.Tie as tie
+
+settings-of-requires : tie.Need-settings-of-requires
+settings-of-requires c κs = search needs
+
+create-categoric-for-value-list-requires : tie.Need-create-categoric-for-value-list-requires
+create-categoric-for-value-list-requires c κs = search needs
+
+settings-form-requires : tie.Need-settings-form-requires
+settings-form-requires c κs = search needs
+
+made-unless-requires : tie.Need-made-unless-requires
+made-unless-requires c κs = search needs
+
+returns : tie.Need-returns
+returns c = cc
+
+pub legend-create-categoric-for-value-list-spec : {M : Type 1} → statement M
+legend-create-categoric-for-value-list-spec =
+    tie.close
+    (tie.spec
+    settings-of-requires
+    create-categoric-for-value-list-requires
+    settings-form-requires
+    made-unless-requires
+    returns)

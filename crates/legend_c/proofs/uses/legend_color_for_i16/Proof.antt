@@ -1,0 +1,39 @@
+-- `uses::legend_color_for_i16` meets its contract. Assumes nothing.
+use mathlib.Core.Path.{ap, _∙_}
+use mir.Syntax.{w16}
+use mir.Facts.{toZ-ofZ}
+use Rattle.cast.specs.Samples.{ofI16}
+use Rattle.cast.specs.Nodata.{nodataI16}
+use Rattle.legend_c.specs.Samples.{nodataIfI16}
+use borrow.Author.Needs.{needs}
+use Rattle.legend_c.proofs.uses.legend_color_for_i16.Statement.{statement}
+use Rattle.legend_c.proofs.uses.legend_color_for_i16.Tie as tie
+
+legend-of-requires : tie.Need-legend-of-requires
+legend-of-requires c κs = search needs
+
+nodata-if-i16-requires : tie.Need-nodata-if-i16-requires
+nodata-if-i16-requires c κs = search needs
+
+color-for-value-i16-requires : tie.Need-color-for-value-i16-requires
+color-for-value-i16-requires c κs = search needs
+
+use-form-requires : tie.Need-use-form-requires
+use-form-requires c κs = search needs
+
+pixel-unless-requires : tie.Need-pixel-unless-requires
+pixel-unless-requires c κs = search needs
+
+returns : tie.Need-returns
+returns c = cc (ap nodataI16 (c .before .before .before .nodata-if-i16 .ensures ∙ ap (nodataIfI16 (c .before .before .before .before .before .args .nodata-given)) (toZ-ofZ {w = w16} (c .before .before .before .before .before .fits .nodata))), ap ofI16 (toZ-ofZ {w = w16} (c .before .before .before .before .before .fits .value)))
+
+pub legend-color-for-i16-spec : {M : Type 1} → statement M
+legend-color-for-i16-spec =
+    tie.close
+    (tie.spec
+    legend-of-requires
+    nodata-if-i16-requires
+    color-for-value-i16-requires
+    use-form-requires
+    pixel-unless-requires
+    returns)

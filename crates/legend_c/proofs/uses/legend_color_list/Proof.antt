@@ -1,0 +1,29 @@
+-- `uses::legend_color_list` meets its contract. Assumes nothing.
+use borrow.Author.Needs.{needs}
+use Rattle.legend_c.proofs.uses.legend_color_list.Statement.{statement}
+use Rattle.legend_c.proofs.uses.legend_color_list.Tie as tie
+
+legend-of-requires : tie.Need-legend-of-requires
+legend-of-requires c κs = search needs
+
+color-list-requires : tie.Need-color-list-requires
+color-list-requires c κs = search needs
+
+record-form-requires : tie.Need-record-form-requires
+record-form-requires c κs = search needs
+
+list-unless-requires : tie.Need-list-unless-requires
+list-unless-requires c κs = search needs
+
+returns : tie.Need-returns
+returns c = cc
+
+pub legend-color-list-spec : {M : Type 1} → statement M
+legend-color-list-spec =
+    tie.close
+    (tie.spec
+    legend-of-requires
+    color-list-requires
+    record-form-requires
+    list-unless-requires
+    returns)

@@ -1,0 +1,29 @@
+-- `uses::legend_total_value_range` meets its contract. Assumes nothing.
+use borrow.Author.Needs.{needs}
+use Rattle.legend_c.proofs.uses.legend_total_value_range.Statement.{statement}
+use Rattle.legend_c.proofs.uses.legend_total_value_range.Tie as tie
+
+legend-of-requires : tie.Need-legend-of-requires
+legend-of-requires c κs = search needs
+
+total-value-range-requires : tie.Need-total-value-range-requires
+total-value-range-requires c κs = search needs
+
+record-form-requires : tie.Need-record-form-requires
+record-form-requires c κs = search needs
+
+range-unless-requires : tie.Need-range-unless-requires
+range-unless-requires c κs = search needs
+
+returns : tie.Need-returns
+returns c = cc
+
+pub legend-total-value-range-spec : {M : Type 1} → statement M
+legend-total-value-range-spec =
+    tie.close
+    (tie.spec
+    legend-of-requires
+    total-value-range-requires
+    record-form-requires
+    range-unless-requires
+    returns)
