@@ -1,6 +1,7 @@
-//! The whole comparison: `compare [--gate] [--seed N] [--random N] [--only WORDS]`. By default all f32 patterns, all pairs
-//! of channel values, 10 million random inputs for each call, and a seed from the clock. WORDS pick the comparisons that
-//! have them in their names.
+//! The whole comparison: `compare [--gate] [--seed N] [--random N] [--cases N] [--only WORDS]`. By default all f32
+//! patterns, all pairs of channel values, 10 million random inputs for each call and one in 20 as many where an input
+//! is a legend, and a seed from the clock. `--cases N` is about legends: N cases of them, and of the rest what the gate
+//! runs. WORDS pick the comparisons that have them in their names.
 
 use compare::plan::{Plan, absent, run_all};
 use std::process::ExitCode;
@@ -11,7 +12,7 @@ fn main() -> ExitCode {
         return ExitCode::SUCCESS;
     }
     let clock = SystemTime::now().duration_since(UNIX_EPOCH).map_or(0, |now| now.as_secs());
-    let (mut seed, mut random, mut gate, mut only) = (clock, 10_000_000, false, String::new());
+    let (mut seed, mut random, mut gate, mut cases, mut only) = (clock, 10_000_000, false, None, String::new());
     let mut words = std::env::args().skip(1);
     while let Some(word) = words.next() {
         let known = match word.as_str() {
@@ -21,14 +22,19 @@ fn main() -> ExitCode {
             }
             "--seed" => words.next().and_then(|word| word.parse().ok()).map(|given| seed = given),
             "--random" => words.next().and_then(|word| word.parse().ok()).map(|given| random = given),
+            "--cases" => words.next().and_then(|word| word.parse().ok()).map(|given| cases = Some(given)),
             "--only" => words.next().map(|given| only = given),
             _ => None,
         };
         if known.is_none() {
-            eprintln!("usage: compare [--gate] [--seed N] [--random N] [--only WORDS]");
+            eprintln!("usage: compare [--gate] [--seed N] [--random N] [--cases N] [--only WORDS]");
             return ExitCode::from(2);
         }
     }
-    let plan = if gate { Plan::gate(seed) } else { Plan::full(seed, random) };
+    let plan = match cases {
+        Some(cases) => Plan::cases(seed, cases),
+        None if gate => Plan::gate(seed),
+        None => Plan::full(seed, random),
+    };
     if run_all(&plan, &only).0 { ExitCode::SUCCESS } else { ExitCode::FAILURE }
 }

@@ -1,6 +1,8 @@
 //! Which calls are compared, on which inputs, and how many.
 
 use crate::engine::{Difference, Fault, Inputs, Subject, compare};
+use crate::subjects::legends::samples::Drawn;
+use crate::subjects::legends::{Kinds, builders, paintings, ranges, values};
 use crate::subjects::{hex, keys, lookups, palettes, patterns, ramps};
 use std::time::{Duration, Instant};
 
@@ -14,24 +16,35 @@ pub struct Plan {
     pub patterns: u32,
     /// One in this many of the lists that have every pair of channel values.
     pub pairs: u64,
+    /// Random legends in each comparison that has them.
+    pub legends: u64,
 }
 
 impl Plan {
     /// What the gate runs: seconds.
     pub fn gate(seed: u64) -> Plan {
-        Plan { seed, random: 200_000, patterns: 257, pairs: 509 }
+        Plan { seed, random: 200_000, patterns: 257, pairs: 509, legends: 20_000 }
     }
 
     /// Everything: all f32, all pairs of channel values, and as many random inputs as asked.
     pub fn full(seed: u64, random: u64) -> Plan {
-        Plan { seed, random, patterns: 1, pairs: 1 }
+        Plan { seed, random, patterns: 1, pairs: 1, legends: random / 20 }
+    }
+
+    /// Legends above all: `cases` at least over all comparisons that have legends, and of the rest what the gate runs.
+    pub fn cases(seed: u64, cases: u64) -> Plan {
+        Plan { legends: cases.div_ceil(CASES_OF_ONE), ..Plan::gate(seed) }
     }
 
     /// Next to nothing, for the self-test.
     pub fn least(seed: u64) -> Plan {
-        Plan { seed, random: 100, patterns: 1 << 20, pairs: 1 << 18 }
+        Plan { seed, random: 100, patterns: 1 << 20, pairs: 1 << 18, legends: 50 }
     }
 }
+
+/// Cases that one random legend in each comparison comes to, at least: 3 times 8 samples, 3 times 2 rasters, and those
+/// builders that nothing added refuses.
+const CASES_OF_ONE: u64 = 33;
 
 type Go = dyn Fn(&Plan, Option<Fault>) -> Result<u64, Difference>;
 
@@ -66,6 +79,46 @@ impl Run {
 
 /// Every comparison.
 pub fn runs() -> Vec<Run> {
+    let mut all = leaf_runs();
+    all.extend(legend_runs());
+    all
+}
+
+/// The comparisons of builders and of a legend's uses.
+fn legend_runs() -> Vec<Run> {
+    let builder = |name, kinds| {
+        Run::new(name, || builders::Builders, move |plan| builders::random(kinds, plan.seed, plan.legends))
+    };
+    let ranged = |name, kinds| {
+        Run::new(name, || ranges::Ranges, move |plan| builders::random(kinds, plan.seed, plan.legends / 4))
+    };
+    vec![
+        builder("builder, linear, of lists and ramps", Kinds::Linear),
+        builder("builder, equal bands, of lists and ramps", Kinds::EqualBands),
+        builder("builder, manual ranges, of lists and ramps", Kinds::ManualRanges),
+        builder("builder, bands as given", Kinds::BandsAsGiven),
+        builder("builder, categories by values, of lists and ramps", Kinds::Values),
+        builder("builder, categories by range, of lists and ramps", Kinds::KeyRange),
+        ranged("total range and colour list, of built legends", Kinds::All),
+        ranged("total range and colour list, of records without a builder", Kinds::Stored),
+        valued::<f32>("colour of a sample, f32"),
+        valued::<u8>("colour of a sample, u8"),
+        valued::<i16>("colour of a sample, i16"),
+        painted::<f32>("painting, plain and 4, 8, 16 lanes, f32"),
+        painted::<u8>("painting, plain and 4, 8, 16 lanes, u8"),
+        painted::<i16>("painting, plain and 4, 8, 16 lanes, i16"),
+    ]
+}
+
+fn valued<T: Drawn>(name: &'static str) -> Run {
+    Run::new(name, values::Values::<T>::default, |plan| values::random(plan.seed, plan.legends))
+}
+
+fn painted<T: Drawn>(name: &'static str) -> Run {
+    Run::new(name, paintings::Paintings::<T>::default, |plan| paintings::random(plan.seed, 2 * plan.legends))
+}
+
+fn leaf_runs() -> Vec<Run> {
     vec![
         Run::new("hex, every ASCII pair at each place", || hex::Hex, |_| hex::all_pairs()),
         Run::new("hex, random texts of 0 to 12 bytes", || hex::Hex, |plan| hex::random(plan.seed, plan.random)),

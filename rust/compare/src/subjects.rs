@@ -2,6 +2,7 @@
 
 pub mod hex;
 pub mod keys;
+pub mod legends;
 pub mod lookups;
 pub mod palettes;
 pub mod patterns;

@@ -2,6 +2,8 @@
 
 use compare::engine::{Fault, Inputs, Subject, compare};
 use compare::plan::{Plan, absent, runs};
+use compare::subjects::legends::paintings::{self, Painting, Paintings};
+use compare::subjects::legends::{Asked, Job, Kinds, builders};
 use compare::subjects::patterns::Block;
 use compare::subjects::{hex, lookups, patterns, ramps};
 
@@ -59,4 +61,130 @@ fn the_smallest_input_is_found() {
     let third = |block: &Block| block.floats().any(|x| x == 1.0 / 3.0);
     let fraction = smallest(lookups::Plain::default(), third, patterns::around(vec![0.5, 1.0 / 3.0]));
     assert_eq!(fraction, format!("{:?} (bits {:#010x})", 1f32 / 3.0, (1f32 / 3.0).to_bits()));
+}
+
+#[test]
+fn the_smallest_painting_is_found() {
+    if absent() {
+        return;
+    }
+    let wrong = |painting: &Painting<f32>| painting.raster.iter().any(|x| x.is_nan());
+    let found = smallest(Paintings::default(), wrong, paintings::random(1, 1000));
+    assert!(found.contains("raster: [NaN], nodata: None"), "{found}");
+    let many = |asked: &Asked| matches!(&asked.job, Job::EqualBands { count, .. } if *count >= 5);
+    let found = smallest(builders::Builders, many, builders::random(Kinds::EqualBands, 1, 1000));
+    assert!(found.contains("EqualBands { count: 5,") && found.contains("start: 0.0, end: 0.0"), "{found}");
+}
+
+/// A subject of ours that follows another rule: it is given another input than the reference is.
+struct Changed<S: Subject>(S, fn(&mut S::Input));
+
+impl<S: Subject> Subject for Changed<S> {
+    type Input = S::Input;
+    fn ours(&self, input: &S::Input, words: &mut Vec<u64>) {
+        let mut other = input.clone();
+        (self.1)(&mut other);
+        self.0.ours(&other, words);
+    }
+    fn theirs(&self, input: &S::Input, words: &mut Vec<u64>) {
+        self.0.theirs(input, words);
+    }
+    fn smaller(&self, input: &S::Input) -> Vec<S::Input> {
+        self.0.smaller(input)
+    }
+}
+
+fn zero_is_never_nodata(painting: &mut Painting<f32>) {
+    painting.asked.config.zero_is_nodata = false;
+}
+
+fn nodata_is_not_looked_at(painting: &mut Painting<f32>) {
+    painting.nodata = None;
+}
+
+fn low_is_high(painting: &mut Painting<f32>) {
+    painting.asked.config.low = painting.asked.config.high;
+}
+
+fn absent_high_is_nodata(painting: &mut Painting<f32>) {
+    let config = &mut painting.asked.config;
+    config.high = config.high.or(Some(config.nodata_color));
+}
+
+fn a_band_has_its_end(painting: &mut Painting<f32>) {
+    if let Job::BandsAsGiven { bands } = &mut painting.asked.job {
+        bands.iter_mut().for_each(|band| band.1 = band.1.next_up());
+    }
+}
+
+fn the_first_band_wins_in_lanes(painting: &mut Painting<f32>) {
+    if let (Job::BandsAsGiven { bands }, Some(_)) = (&mut painting.asked.job, painting.lanes) {
+        bands.reverse();
+    }
+}
+
+fn lanes_are_painted_plainly(painting: &mut Painting<f32>) {
+    painting.lanes = None;
+}
+
+fn the_last_sample_is_the_one_before(painting: &mut Painting<f32>) {
+    if let [.., before, last] = &mut painting.raster[..] {
+        *last = *before;
+    }
+}
+
+/// One rule of a painting changed on our side: each change is caught, and no change is none.
+#[test]
+fn a_changed_rule_of_painting_is_caught() {
+    if absent() {
+        return;
+    }
+    let caught = |change: fn(&mut Painting<f32>)| {
+        compare(&Changed(Paintings::<f32>::default(), change), &paintings::random(1, 4000), None).is_err()
+    };
+    assert!(!caught(|_| ()));
+    assert!(caught(zero_is_never_nodata));
+    assert!(caught(nodata_is_not_looked_at));
+    assert!(caught(low_is_high));
+    assert!(caught(absent_high_is_nodata));
+    assert!(caught(a_band_has_its_end));
+    assert!(caught(the_first_band_wins_in_lanes));
+    assert!(caught(lanes_are_painted_plainly));
+    assert!(caught(the_last_sample_is_the_one_before));
+}
+
+fn of_equal_keys_the_first_stays(asked: &mut Asked) {
+    if let Job::Values { values, colors: oracle::Colors::List(words) } = &mut asked.job {
+        values.reverse();
+        words.reverse();
+    }
+}
+
+fn a_range_may_be_empty(asked: &mut Asked) {
+    if let Job::ManualRanges { ranges, .. } = &mut asked.job {
+        ranges.iter_mut().filter(|range| range.0 == range.1).for_each(|range| range.1 = range.1.next_up());
+    }
+}
+
+fn a_ramp_is_read_from_its_end(asked: &mut Asked) {
+    if let Job::EqualBands { colors: oracle::Colors::Preset(_, reversed), .. } = &mut asked.job {
+        *reversed = !*reversed;
+    }
+}
+
+/// The same for builders.
+#[test]
+fn a_changed_rule_of_building_is_caught() {
+    if absent() {
+        return;
+    }
+    let caught = |kinds, change: fn(&mut Asked)| {
+        compare(&Changed(builders::Builders, change), &builders::random(kinds, 1, 4000), None).is_err()
+    };
+    for kinds in [Kinds::Values, Kinds::ManualRanges, Kinds::EqualBands] {
+        assert!(!caught(kinds, |_| ()));
+    }
+    assert!(caught(Kinds::Values, of_equal_keys_the_first_stays));
+    assert!(caught(Kinds::ManualRanges, a_range_may_be_empty));
+    assert!(caught(Kinds::EqualBands, a_ramp_is_read_from_its_end));
 }

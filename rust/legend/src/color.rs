@@ -38,6 +38,17 @@ impl Color {
         self.0
     }
 
+    /// Words as the colours that they are: a buffer of words can be lent to a painting.
+    ///
+    /// ```
+    /// let mut words = [0u32; 2];
+    /// legend::Color::of_words(&mut words)[1] = legend::Color::rgba(1, 2, 3, 4);
+    /// assert_eq!(words, [0, 0x0403_0201]);
+    /// ```
+    pub fn of_words(words: &mut [u32]) -> &mut [Color] {
+        ffi::colors_of_words(words)
+    }
+
     /// Red.
     pub const fn r(self) -> u8 {
         self.0.to_le_bytes()[0]

@@ -57,6 +57,208 @@ pub struct LegendKey {
     pub whole: u32,
 }
 
+/// The settings of a legend. `low_color` counts only where `has_low` is 1, and `high_color` where `has_high` is. The
+/// last three are flags: another number than 0 and 1 is answered with [`BAD_FLAG`].
+#[derive(Debug, Clone, Copy, PartialEq, Eq)]
+#[repr(C)]
+pub struct LegendSettings {
+    /// The colour of samples that cannot be mapped.
+    pub nodata_color: Color,
+    /// The colour below the legend.
+    pub low_color: Color,
+    /// The colour above the legend.
+    pub high_color: Color,
+    /// Whether there is a low colour.
+    pub has_low: u32,
+    /// Whether there is a high colour.
+    pub has_high: u32,
+    /// Whether samples that equal 0 are nodata.
+    pub zero_is_nodata: u32,
+}
+
+/// A linear legend: its bounds and its ramp.
+#[derive(Debug, Clone, Copy, PartialEq)]
+#[repr(C)]
+pub struct LegendLinear {
+    /// Where the ramp starts.
+    pub start: f32,
+    /// Where it ends.
+    pub end: f32,
+    /// The ramp.
+    pub cmap: [Color; 256],
+}
+
+/// A band: the samples from `start` on that are below `end`.
+#[derive(Debug, Clone, Copy, PartialEq, Default)]
+#[repr(C)]
+pub struct LegendBand {
+    /// The first sample.
+    pub start: f32,
+    /// The first sample above the band.
+    pub end: f32,
+    /// Its colour.
+    pub color: Color,
+}
+
+/// The bands of a legend: the first `count`.
+#[derive(Debug, Clone, Copy, PartialEq)]
+#[repr(C)]
+pub struct LegendBanded {
+    /// The bands, blank ones from `count` on.
+    pub bands: [LegendBand; 64],
+    /// How many there are.
+    pub count: usize,
+}
+
+/// The categories of a legend: the first `count` keys with their colours, and the first `lookup_count` words of a
+/// table.
+#[derive(Debug, Clone, Copy, PartialEq, Eq)]
+#[repr(C)]
+pub struct LegendCategoric {
+    /// The keys.
+    pub keys: [i64; 256],
+    /// Their colours.
+    pub colors: [Color; 256],
+    /// How many there are.
+    pub count: usize,
+    /// The colour of each key from 0 on.
+    pub lookup: [Color; 513],
+    /// How many words the table has: 0 where there is none.
+    pub lookup_count: usize,
+}
+
+/// A legend: its kind (0 linear, 1 banded, 2 categoric), and the three records, of which that of the kind counts.
+#[derive(Debug, Clone, Copy, PartialEq)]
+#[repr(C)]
+pub struct LegendRecord {
+    /// The kind: another number than 0, 1, 2 is answered with [`BAD_KIND`].
+    pub kind: u32,
+    /// The settings.
+    pub settings: LegendSettings,
+    /// Of kind 0.
+    pub linear: LegendLinear,
+    /// Of kind 1.
+    pub banded: LegendBanded,
+    /// Of kind 2.
+    pub categoric: LegendCategoric,
+}
+
+/// A legend that was asked for: the empty one beside a refusal.
+#[derive(Debug, Clone, Copy, PartialEq)]
+#[repr(C)]
+pub struct LegendMade {
+    /// Refused: as the table says for each builder.
+    pub answer: LegendAnswer,
+    /// The legend.
+    pub legend: LegendRecord,
+}
+
+/// A range of values.
+#[derive(Debug, Clone, Copy, PartialEq, Default)]
+#[repr(C)]
+pub struct LegendRange {
+    /// Where it starts.
+    pub start: f32,
+    /// Where it ends.
+    pub end: f32,
+}
+
+/// The ranges of bands: the first `count`. A count above 64 is refused, and so never read.
+#[derive(Debug, Clone, Copy, PartialEq)]
+#[repr(C)]
+pub struct LegendRanges {
+    /// The ranges.
+    pub ranges: [LegendRange; 64],
+    /// How many there are.
+    pub count: usize,
+}
+
+/// The whole range of a legend's values, 0 and 0 beside a refusal.
+#[derive(Debug, Clone, Copy, PartialEq)]
+#[repr(C)]
+pub struct LegendValueRange {
+    /// Refused: 16, 17.
+    pub answer: LegendAnswer,
+    /// Where it starts.
+    pub start: f32,
+    /// Where it ends.
+    pub end: f32,
+}
+
+/// The 256 colours of a legend from its lowest to its highest value, all 0 beside a refusal.
+#[derive(Debug, Clone, Copy, PartialEq, Eq)]
+#[repr(C)]
+pub struct LegendColorList {
+    /// Refused: 16, 17.
+    pub answer: LegendAnswer,
+    /// The colours.
+    pub colors: [Color; 256],
+}
+
+/// The answer's number for a flag that is neither 0 nor 1. It comes before [`BAD_KIND`] where it is one of the
+/// record's three, and after it where it is the flag of a nodata value.
+pub const BAD_FLAG: u32 = 100;
+
+/// The answer's number for a kind that is none of 0, 1, 2. It comes before every refusal of the table.
+pub const BAD_KIND: u32 = 101;
+
+impl LegendSettings {
+    /// All 0: nodata is transparent, and there is neither a low nor a high colour.
+    pub const EMPTY: LegendSettings = LegendSettings {
+        nodata_color: Color::TRANSPARENT,
+        low_color: Color::TRANSPARENT,
+        high_color: Color::TRANSPARENT,
+        has_low: 0,
+        has_high: 0,
+        zero_is_nodata: 0,
+    };
+}
+
+impl LegendLinear {
+    /// From 0 to 0 over a ramp that is transparent throughout.
+    pub const EMPTY: LegendLinear = LegendLinear { start: 0.0, end: 0.0, cmap: [Color::TRANSPARENT; 256] };
+}
+
+impl LegendBanded {
+    /// No bands.
+    pub const EMPTY: LegendBanded =
+        LegendBanded { bands: [LegendBand { start: 0.0, end: 0.0, color: Color::TRANSPARENT }; 64], count: 0 };
+}
+
+impl LegendCategoric {
+    /// No categories and no table.
+    pub const EMPTY: LegendCategoric = LegendCategoric {
+        keys: [0; 256],
+        colors: [Color::TRANSPARENT; 256],
+        count: 0,
+        lookup: [Color::TRANSPARENT; 513],
+        lookup_count: 0,
+    };
+}
+
+impl LegendRecord {
+    /// The record that stands beside a refusal.
+    pub const EMPTY: LegendRecord = LegendRecord {
+        kind: 0,
+        settings: LegendSettings::EMPTY,
+        linear: LegendLinear::EMPTY,
+        banded: LegendBanded::EMPTY,
+        categoric: LegendCategoric::EMPTY,
+    };
+}
+
+impl LegendRanges {
+    /// The ranges of a list. A list that is too long keeps its count, by which a builder refuses it.
+    pub fn new(list: impl ExactSizeIterator<Item = LegendRange>) -> LegendRanges {
+        let count = list.len();
+        let mut ranges = [LegendRange::default(); 64];
+        for (place, range) in ranges.iter_mut().zip(list) {
+            *place = range;
+        }
+        LegendRanges { ranges, count }
+    }
+}
+
 // A `Color` is its word (repr(transparent)), so a pointer to words may point to colours.
 unsafe extern "C" {
     fn legend_hex(text: *const u8, length: usize) -> LegendColor;
@@ -66,6 +268,144 @@ unsafe extern "C" {
     fn legend_get_color(ramp: *const [Color; 256], fraction: f32) -> Color;
     fn legend_get_color_simd(ramp: *const [Color; 256], fraction: f32) -> Color;
     fn legend_to_i64(sample: f32) -> LegendKey;
+    fn legend_create_linear(
+        colors: *const Color,
+        colors_length: usize,
+        start: f32,
+        end: f32,
+        settings: LegendSettings,
+    ) -> LegendMade;
+    fn legend_create_linear_from_ramp(
+        ramp: *const [Color; 256],
+        start: f32,
+        end: f32,
+        settings: LegendSettings,
+    ) -> LegendMade;
+    fn legend_create_banded(
+        count: usize,
+        colors: *const Color,
+        colors_length: usize,
+        start: f32,
+        end: f32,
+        settings: LegendSettings,
+    ) -> LegendMade;
+    fn legend_create_banded_from_ramp(
+        count: usize,
+        ramp: *const [Color; 256],
+        start: f32,
+        end: f32,
+        settings: LegendSettings,
+    ) -> LegendMade;
+    fn legend_create_banded_manual_ranges(
+        colors: *const Color,
+        colors_length: usize,
+        ranges: LegendRanges,
+        settings: LegendSettings,
+    ) -> LegendMade;
+    fn legend_create_banded_manual_ranges_from_ramp(
+        ramp: *const [Color; 256],
+        ranges: LegendRanges,
+        settings: LegendSettings,
+    ) -> LegendMade;
+    fn legend_create_banded_as_given(
+        bands: *const LegendBand,
+        bands_length: usize,
+        settings: LegendSettings,
+    ) -> LegendMade;
+    fn legend_create_categoric_for_value_list(
+        colors: *const Color,
+        colors_length: usize,
+        values: *const i64,
+        values_length: usize,
+        settings: LegendSettings,
+    ) -> LegendMade;
+    fn legend_create_categoric_for_value_list_from_ramp(
+        ramp: *const [Color; 256],
+        values: *const i64,
+        values_length: usize,
+        settings: LegendSettings,
+    ) -> LegendMade;
+    fn legend_create_categoric_for_value_range(
+        colors: *const Color,
+        colors_length: usize,
+        start: i64,
+        end: i64,
+        settings: LegendSettings,
+    ) -> LegendMade;
+    fn legend_create_categoric_for_value_range_from_ramp(
+        ramp: *const [Color; 256],
+        start: i64,
+        end: i64,
+        settings: LegendSettings,
+    ) -> LegendMade;
+    fn legend_color_for_f32(legend: LegendRecord, value: f32, nodata_given: u32, nodata: f32) -> LegendColor;
+    fn legend_color_for_u8(legend: LegendRecord, value: u8, nodata_given: u32, nodata: u8) -> LegendColor;
+    fn legend_color_for_i16(legend: LegendRecord, value: i16, nodata_given: u32, nodata: i16) -> LegendColor;
+    fn legend_paint_f32(
+        legend: LegendRecord,
+        src: *const f32,
+        src_length: usize,
+        nodata_given: u32,
+        nodata: f32,
+        out: *mut Color,
+        out_length: usize,
+    ) -> LegendAnswer;
+    fn legend_paint_u8(
+        legend: LegendRecord,
+        src: *const u8,
+        src_length: usize,
+        nodata_given: u32,
+        nodata: u8,
+        out: *mut Color,
+        out_length: usize,
+    ) -> LegendAnswer;
+    fn legend_paint_i16(
+        legend: LegendRecord,
+        src: *const i16,
+        src_length: usize,
+        nodata_given: u32,
+        nodata: i16,
+        out: *mut Color,
+        out_length: usize,
+    ) -> LegendAnswer;
+    fn legend_paint_lanes_f32(
+        legend: LegendRecord,
+        lanes: usize,
+        src: *const f32,
+        src_length: usize,
+        nodata_given: u32,
+        nodata: f32,
+        out: *mut Color,
+        out_length: usize,
+        scratch: *mut Color,
+        scratch_length: usize,
+    ) -> LegendAnswer;
+    fn legend_paint_lanes_u8(
+        legend: LegendRecord,
+        lanes: usize,
+        src: *const u8,
+        src_length: usize,
+        nodata_given: u32,
+        nodata: u8,
+        out: *mut Color,
+        out_length: usize,
+        scratch: *mut Color,
+        scratch_length: usize,
+    ) -> LegendAnswer;
+    fn legend_paint_lanes_i16(
+        legend: LegendRecord,
+        lanes: usize,
+        src: *const i16,
+        src_length: usize,
+        nodata_given: u32,
+        nodata: i16,
+        out: *mut Color,
+        out_length: usize,
+        scratch: *mut Color,
+        scratch_length: usize,
+    ) -> LegendAnswer;
+    fn legend_total_value_range(legend: LegendRecord) -> LegendValueRange;
+    fn legend_color_list(legend: LegendRecord) -> LegendColorList;
 }
 
 /// The colour of `#RRGGBB` or `#RRGGBBAA`.
@@ -111,4 +451,250 @@ pub fn get_color_simd(ramp: &[Color; 256], fraction: f32) -> Color {
 pub fn to_i64(sample: f32) -> LegendKey {
     // SAFETY: the call takes and gives plain values, and its contract asks nothing of them.
     unsafe { legend_to_i64(sample) }
+}
+
+/// A linear legend over a list of colours.
+pub fn create_linear(colors: &[Color], start: f32, end: f32, settings: LegendSettings) -> LegendMade {
+    // SAFETY: each pointer and the length beside it are one slice's, which the call reads and does not keep.
+    unsafe { legend_create_linear(colors.as_ptr(), colors.len(), start, end, settings) }
+}
+
+/// A linear legend over a ramp.
+pub fn create_linear_from_ramp(ramp: &[Color; 256], start: f32, end: f32, settings: LegendSettings) -> LegendMade {
+    // SAFETY: the reference is to the 256 words that the call reads, and the call does not keep it.
+    unsafe { legend_create_linear_from_ramp(ramp, start, end, settings) }
+}
+
+/// Bands of equal width, a colour of the list each.
+pub fn create_banded(count: usize, colors: &[Color], start: f32, end: f32, settings: LegendSettings) -> LegendMade {
+    // SAFETY: each pointer and the length beside it are one slice's, which the call reads and does not keep.
+    unsafe { legend_create_banded(count, colors.as_ptr(), colors.len(), start, end, settings) }
+}
+
+/// Bands of equal width, with colours of a ramp.
+pub fn create_banded_from_ramp(
+    count: usize,
+    ramp: &[Color; 256],
+    start: f32,
+    end: f32,
+    settings: LegendSettings,
+) -> LegendMade {
+    // SAFETY: the reference is to the 256 words that the call reads, and the call does not keep it.
+    unsafe { legend_create_banded_from_ramp(count, ramp, start, end, settings) }
+}
+
+/// A band for each range, a colour of the list each.
+pub fn create_banded_manual_ranges(colors: &[Color], ranges: LegendRanges, settings: LegendSettings) -> LegendMade {
+    // SAFETY: each pointer and the length beside it are one slice's, which the call reads and does not keep.
+    unsafe { legend_create_banded_manual_ranges(colors.as_ptr(), colors.len(), ranges, settings) }
+}
+
+/// A band for each range, with colours of a ramp.
+pub fn create_banded_manual_ranges_from_ramp(
+    ramp: &[Color; 256],
+    ranges: LegendRanges,
+    settings: LegendSettings,
+) -> LegendMade {
+    // SAFETY: the reference is to the 256 words that the call reads, and the call does not keep it.
+    unsafe { legend_create_banded_manual_ranges_from_ramp(ramp, ranges, settings) }
+}
+
+/// Bands as they are given, in their order.
+pub fn create_banded_as_given(bands: &[LegendBand], settings: LegendSettings) -> LegendMade {
+    // SAFETY: each pointer and the length beside it are one slice's, which the call reads and does not keep.
+    unsafe { legend_create_banded_as_given(bands.as_ptr(), bands.len(), settings) }
+}
+
+/// A category for each value, a colour of the list each.
+pub fn create_categoric_for_value_list(colors: &[Color], values: &[i64], settings: LegendSettings) -> LegendMade {
+    // SAFETY: each pointer and the length beside it are one slice's, which the call reads and does not keep.
+    unsafe {
+        legend_create_categoric_for_value_list(colors.as_ptr(), colors.len(), values.as_ptr(), values.len(), settings)
+    }
+}
+
+/// A category for each value, with colours of a ramp.
+pub fn create_categoric_for_value_list_from_ramp(
+    ramp: &[Color; 256],
+    values: &[i64],
+    settings: LegendSettings,
+) -> LegendMade {
+    // SAFETY: the reference is to the 256 words that the call reads, the pointer and the length are one slice's, and it
+    // keeps neither.
+    unsafe { legend_create_categoric_for_value_list_from_ramp(ramp, values.as_ptr(), values.len(), settings) }
+}
+
+/// A category for each whole number from start to end, a colour of the list each.
+pub fn create_categoric_for_value_range(
+    colors: &[Color],
+    start: i64,
+    end: i64,
+    settings: LegendSettings,
+) -> LegendMade {
+    // SAFETY: each pointer and the length beside it are one slice's, which the call reads and does not keep.
+    unsafe { legend_create_categoric_for_value_range(colors.as_ptr(), colors.len(), start, end, settings) }
+}
+
+/// A category for each whole number from start to end, with colours of a ramp.
+pub fn create_categoric_for_value_range_from_ramp(
+    ramp: &[Color; 256],
+    start: i64,
+    end: i64,
+    settings: LegendSettings,
+) -> LegendMade {
+    // SAFETY: the reference is to the 256 words that the call reads, and the call does not keep it.
+    unsafe { legend_create_categoric_for_value_range_from_ramp(ramp, start, end, settings) }
+}
+
+/// The colour of an f32 sample.
+pub fn color_for_f32(legend: &LegendRecord, value: f32, nodata_given: u32, nodata: f32) -> LegendColor {
+    // SAFETY: the call takes and gives plain values, and its contract asks nothing of them.
+    unsafe { legend_color_for_f32(*legend, value, nodata_given, nodata) }
+}
+
+/// The colour of a u8 sample.
+pub fn color_for_u8(legend: &LegendRecord, value: u8, nodata_given: u32, nodata: u8) -> LegendColor {
+    // SAFETY: the call takes and gives plain values, and its contract asks nothing of them.
+    unsafe { legend_color_for_u8(*legend, value, nodata_given, nodata) }
+}
+
+/// The colour of an i16 sample.
+pub fn color_for_i16(legend: &LegendRecord, value: i16, nodata_given: u32, nodata: i16) -> LegendColor {
+    // SAFETY: the call takes and gives plain values, and its contract asks nothing of them.
+    unsafe { legend_color_for_i16(*legend, value, nodata_given, nodata) }
+}
+
+/// Paints an f32 raster sample by sample.
+pub fn paint_f32(
+    legend: &LegendRecord,
+    src: &[f32],
+    nodata_given: u32,
+    nodata: f32,
+    out: &mut [Color],
+) -> LegendAnswer {
+    // SAFETY: each pointer and the length beside it are one slice's; those written through are borrowed alone, and the
+    // call keeps none.
+    unsafe { legend_paint_f32(*legend, src.as_ptr(), src.len(), nodata_given, nodata, out.as_mut_ptr(), out.len()) }
+}
+
+/// Paints a u8 raster sample by sample.
+pub fn paint_u8(legend: &LegendRecord, src: &[u8], nodata_given: u32, nodata: u8, out: &mut [Color]) -> LegendAnswer {
+    // SAFETY: each pointer and the length beside it are one slice's; those written through are borrowed alone, and the
+    // call keeps none.
+    unsafe { legend_paint_u8(*legend, src.as_ptr(), src.len(), nodata_given, nodata, out.as_mut_ptr(), out.len()) }
+}
+
+/// Paints an i16 raster sample by sample.
+pub fn paint_i16(
+    legend: &LegendRecord,
+    src: &[i16],
+    nodata_given: u32,
+    nodata: i16,
+    out: &mut [Color],
+) -> LegendAnswer {
+    // SAFETY: each pointer and the length beside it are one slice's; those written through are borrowed alone, and the
+    // call keeps none.
+    unsafe { legend_paint_i16(*legend, src.as_ptr(), src.len(), nodata_given, nodata, out.as_mut_ptr(), out.len()) }
+}
+
+/// Paints an f32 raster in lanes.
+pub fn paint_lanes_f32(
+    legend: &LegendRecord,
+    lanes: usize,
+    src: &[f32],
+    nodata_given: u32,
+    nodata: f32,
+    out: &mut [Color],
+    scratch: &mut [Color],
+) -> LegendAnswer {
+    // SAFETY: each pointer and the length beside it are one slice's; those written through are borrowed alone, and the
+    // call keeps none.
+    unsafe {
+        legend_paint_lanes_f32(
+            *legend,
+            lanes,
+            src.as_ptr(),
+            src.len(),
+            nodata_given,
+            nodata,
+            out.as_mut_ptr(),
+            out.len(),
+            scratch.as_mut_ptr(),
+            scratch.len(),
+        )
+    }
+}
+
+/// Paints a u8 raster in lanes.
+pub fn paint_lanes_u8(
+    legend: &LegendRecord,
+    lanes: usize,
+    src: &[u8],
+    nodata_given: u32,
+    nodata: u8,
+    out: &mut [Color],
+    scratch: &mut [Color],
+) -> LegendAnswer {
+    // SAFETY: each pointer and the length beside it are one slice's; those written through are borrowed alone, and the
+    // call keeps none.
+    unsafe {
+        legend_paint_lanes_u8(
+            *legend,
+            lanes,
+            src.as_ptr(),
+            src.len(),
+            nodata_given,
+            nodata,
+            out.as_mut_ptr(),
+            out.len(),
+            scratch.as_mut_ptr(),
+            scratch.len(),
+        )
+    }
+}
+
+/// Paints an i16 raster in lanes.
+pub fn paint_lanes_i16(
+    legend: &LegendRecord,
+    lanes: usize,
+    src: &[i16],
+    nodata_given: u32,
+    nodata: i16,
+    out: &mut [Color],
+    scratch: &mut [Color],
+) -> LegendAnswer {
+    // SAFETY: each pointer and the length beside it are one slice's; those written through are borrowed alone, and the
+    // call keeps none.
+    unsafe {
+        legend_paint_lanes_i16(
+            *legend,
+            lanes,
+            src.as_ptr(),
+            src.len(),
+            nodata_given,
+            nodata,
+            out.as_mut_ptr(),
+            out.len(),
+            scratch.as_mut_ptr(),
+            scratch.len(),
+        )
+    }
+}
+
+/// The whole range of the values of a legend.
+pub fn total_value_range(legend: &LegendRecord) -> LegendValueRange {
+    // SAFETY: the call takes and gives plain values, and its contract asks nothing of them.
+    unsafe { legend_total_value_range(*legend) }
+}
+
+/// The colours from the lowest to the highest value of a legend.
+pub fn color_list(legend: &LegendRecord) -> LegendColorList {
+    // SAFETY: the call takes and gives plain values, and its contract asks nothing of them.
+    unsafe { legend_color_list(*legend) }
+}
+
+/// Words as the colours that they are.
+pub fn colors_of_words(words: &mut [u32]) -> &mut [Color] {
+    // SAFETY: a `Color` is a u32 (repr(transparent)), every word is one, and the borrow goes over to the result.
+    unsafe { std::slice::from_raw_parts_mut(words.as_mut_ptr().cast(), words.len()) }
 }

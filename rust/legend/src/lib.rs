@@ -1,21 +1,26 @@
 //! Legends that colour rasters, over a library that is proved to do what its definitions say.
 //!
-//! A [`Color`] is read from text or taken from a [`Palette`]; a [`Ramp`] spreads colours over 256 entries and looks
-//! fractions up. What a call refuses is a [`Refusal`], with the number of the table of refusals and an index where that
-//! names one. Nothing here panics on an argument, and nothing is allocated.
+//! A [`Legend`] is linear, banded or categoric. It is made of [`Settings`] and of colours, which are a list or a
+//! [`Ramp`] of 256 entries, and paints rasters of `f32`, `u8` or `i16` into lent buffers, sample by sample or in lanes.
+//! A [`Color`] is read from text or taken from a [`Palette`]. What a call refuses is a [`Refusal`], with the number of
+//! the table of refusals and an index where that names one; lent buffers are then as they were. Nothing here panics on
+//! an argument, and nothing is allocated.
 //!
 //! ```
-//! use legend::{Color, Palette, Ramp, Refusal};
+//! use legend::{Color, Legend, Palette, Ramp, Refusal, Settings};
 //!
-//! let blue = Color::from_hex("#0000FF")?;
-//! let red = Color::from_hex("#FF0000")?;
-//! let ramp = Ramp::from_colors(&[blue, red])?;
-//! assert_eq!(ramp.color(0.0), blue);
-//! assert_eq!(ramp.color(0.5), Color::rgb(128, 0, 127));
-//! assert_eq!(ramp.color(1.5), Color::TRANSPARENT);
+//! let blues = Ramp::from_palette(Palette::Blues);
+//! let settings = Settings { high_color: Some("#FF00FF".parse()?), ..Settings::default() };
+//! let legend = Legend::linear(&blues, 0.0..=40.0, settings)?;
 //!
-//! assert_eq!(Palette::Accent.colors().len(), 8);
-//! assert_eq!(Color::from_hex("#00FG00"), Err(Refusal::NotHexByte { pair: 1 }));
+//! let rain = [0.0f32, 10.0, 40.0, 41.0, f32::NAN];
+//! let mut out = [Color::TRANSPARENT; 5];
+//! legend.paint(&rain, None, &mut out)?;
+//! assert_eq!(out[1], blues.color(0.25));
+//! assert_eq!(out[3..], [Color::rgb(255, 0, 255), Color::TRANSPARENT]);
+//!
+//! let short = legend.paint(&rain, None, &mut out[..4]);
+//! assert_eq!(short, Err(Refusal::OutputLengthDiffers));
 //! # Ok::<(), Refusal>(())
 //! ```
 
@@ -26,12 +31,18 @@ mod color;
 #[allow(unsafe_code)]
 pub mod ffi;
 mod key;
+mod legend;
 mod palette;
 mod ramp;
 mod refusal;
+mod sample;
+mod settings;
 
 pub use color::Color;
 pub use key::key;
+pub use legend::{Band, Colors, Kind, Lanes, Legend, Parts};
 pub use palette::Palette;
 pub use ramp::Ramp;
 pub use refusal::Refusal;
+pub use sample::Sample;
+pub use settings::Settings;

@@ -1,43 +1,20 @@
 //! The header and the C example: they compile with every warning an error, and say what the Rust side says.
 
-use legend::ffi::{LegendAnswer, LegendColor, LegendKey, LegendPalette, LegendRamp};
+mod tools;
+
+use legend::ffi::*;
 use std::collections::BTreeSet;
 use std::fs;
-use std::path::{Path, PathBuf};
+use std::path::Path;
 use std::process::Command;
+use tools::{ARCHIVE, compiler, repository, run, run_c};
 
 #[path = "../examples/first.rs"]
 #[allow(dead_code)]
 mod first;
 
-const ARCHIVE: &str = env!("LEGEND_C_ARCHIVE");
-const STRICT: [&str; 4] = ["-Wall", "-Wextra", "-Werror", "-pedantic"];
-
-fn repository() -> PathBuf {
-    Path::new(env!("CARGO_MANIFEST_DIR")).join("../..")
-}
-
 fn header() -> String {
     fs::read_to_string(repository().join("include/legend.h")).expect("the header is there")
-}
-
-/// Runs a command, which has to succeed, and gives what it wrote.
-fn run(command: &mut Command) -> String {
-    let ran = command.output().unwrap_or_else(|error| panic!("{command:?}: {error}"));
-    assert!(ran.status.success(), "{command:?}\n{}", String::from_utf8_lossy(&ran.stderr));
-    String::from_utf8(ran.stdout).expect("text")
-}
-
-/// A compiler with every warning an error, in the folder for this test's files.
-fn compiler(name: &str, standard: &str) -> Command {
-    let mut command = Command::new(name);
-    command
-        .current_dir(env!("CARGO_TARGET_TMPDIR"))
-        .arg(standard)
-        .args(STRICT)
-        .arg("-I")
-        .arg(repository().join("include"));
-    command
 }
 
 /// A struct's size and alignment, and each field's offset and size, as the Rust side has them.
@@ -78,6 +55,17 @@ fn layouts() -> Vec<Layout> {
         LegendPalette { answer, colors, count }
         LegendRamp { answer, colors }
         LegendKey { key, whole }
+        LegendSettings { nodata_color, low_color, high_color, has_low, has_high, zero_is_nodata }
+        LegendLinear { start, end, cmap }
+        LegendBand { start, end, color }
+        LegendBanded { bands, count }
+        LegendCategoric { keys, colors, count, lookup, lookup_count }
+        LegendRecord { kind, settings, linear, banded, categoric }
+        LegendMade { answer, legend }
+        LegendRange { start, end }
+        LegendRanges { ranges, count }
+        LegendValueRange { answer, start, end }
+        LegendColorList { answer, colors }
     }
 }
 
@@ -149,6 +137,7 @@ fn header_archive_and_crate_have_the_same_calls() {
 
 #[test]
 fn refusals_have_the_headers_numbers() {
+    use legend::Kind;
     use legend::Refusal::*;
     let all = [
         EmptyText,
@@ -174,6 +163,14 @@ fn refusals_have_the_headers_numbers() {
         let written = words_after(&header(), &format!("{} = ", constant(why)));
         assert_eq!(written, BTreeSet::from([number.to_string()]), "{why:?}");
     }
+    for (name, number) in [("LEGEND_BAD_FLAG", BAD_FLAG), ("LEGEND_BAD_KIND", BAD_KIND)] {
+        assert_eq!(words_after(&header(), &format!("{name} = ")), BTreeSet::from([number.to_string()]));
+    }
+    for (name, kind) in
+        [("LEGEND_LINEAR", Kind::Linear), ("LEGEND_BANDED", Kind::Banded), ("LEGEND_CATEGORIC", Kind::Categoric)]
+    {
+        assert_eq!(words_after(&header(), &format!("{name} = ")), BTreeSet::from([(kind as u32).to_string()]));
+    }
 }
 
 /// The header's name of a refusal: LEGEND_NOT_HEX_BYTE for `NotHexByte`.
@@ -193,9 +190,7 @@ fn header_alone_compiles() {
 
 #[test]
 fn the_c_example_prints_what_the_rust_example_does() {
-    let program = Path::new(env!("CARGO_TARGET_TMPDIR")).join("first");
-    let source = repository().join("c/first.c");
-    run(compiler("cc", "-std=c11").arg(source).arg(ARCHIVE).arg("-o").arg(&program));
     let lines = first::lines().expect("nothing that the example counts on is refused");
-    assert_eq!(run(&mut Command::new(program)).lines().collect::<Vec<_>>(), lines);
+    let printed = run_c(&repository().join("c/first.c"), "first");
+    assert_eq!(printed.lines().collect::<Vec<_>>(), lines);
 }

@@ -296,6 +296,21 @@ impl Legend {
         })
     }
 
+    /// `apply_scalar` with nothing done to its result, for the benchmark.
+    pub fn paint_bare<T: Sample>(&self, raster: &[T], nodata: Option<T>) -> Painted {
+        text_says!(Painted { colors: self.legend.apply_scalar(raster, nodata) })
+    }
+
+    /// `apply_simd` at 4, 8 or 16 lanes with nothing done to its result, for the benchmark.
+    pub fn paint_simd_bare<T: Sample>(&self, lanes: usize, raster: &[T], nodata: Option<T>) -> Painted {
+        text_says!(Painted { colors: fearless_simd::with_lanes(lanes, || self.legend.apply_simd(raster, nodata)) })
+    }
+
+    /// `apply_to_data_kernel` into the text's own kind of buffer, for the benchmark.
+    pub fn paint_kernel_bare<T: Sample>(&self, lanes: usize, raster: &[T], nodata: Option<T>, out: &mut Canvas) {
+        text_says!(legend::reach::kernel(&self.legend, lanes, raster, nodata, &mut out.colors))
+    }
+
     /// `total_value_range`.
     pub fn total_value_range(&self) -> (f32, f32) {
         text_says!(self.legend.total_value_range().into_inner())
@@ -304,6 +319,34 @@ impl Legend {
     /// `color_list`.
     pub fn color_list(&self) -> Vec<u32> {
         text_says!(words(&self.legend.color_list()))
+    }
+}
+
+/// A painted raster as the text gives it.
+pub struct Painted {
+    #[cfg(text)]
+    colors: allocate::AlignedVec<Color>,
+}
+
+impl Painted {
+    pub fn words(&self) -> Vec<u32> {
+        text_says!(words(&self.colors))
+    }
+}
+
+/// An output that the kernel paints into.
+pub struct Canvas {
+    #[cfg(text)]
+    colors: Vec<Color>,
+}
+
+impl Canvas {
+    pub fn new(length: usize) -> Canvas {
+        text_says!(Canvas { colors: vec![Color::from(0); length] })
+    }
+
+    pub fn words(&self) -> Vec<u32> {
+        text_says!(words(&self.colors))
     }
 }
 

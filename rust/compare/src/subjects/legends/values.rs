@@ -1,0 +1,69 @@
+//! The colour of a sample by itself.
+
+use super::samples::{Drawn, edges};
+use super::{Asked, Kinds, ask, fewer, said, smaller_asked};
+use crate::engine::{Inputs, Subject};
+use crate::random::Random;
+use crate::subjects::{DONE, refusal_words};
+use std::marker::PhantomData;
+
+/// Samples, each by itself, of one legend.
+#[derive(Debug, Clone)]
+pub struct Asking<T> {
+    pub asked: Asked,
+    pub values: Vec<T>,
+    pub nodata: Option<T>,
+}
+
+pub struct Values<T>(PhantomData<T>);
+
+impl<T> Default for Values<T> {
+    fn default() -> Values<T> {
+        Values(PhantomData)
+    }
+}
+
+impl<T: Drawn> Subject for Values<T> {
+    type Input = Asking<T>;
+
+    fn cases(&self, asking: &Asking<T>) -> u64 {
+        if asking.asked.added().is_none() { asking.values.len() as u64 } else { 0 }
+    }
+
+    fn ours(&self, asking: &Asking<T>, words: &mut Vec<u64>) {
+        let Some(legend) = said(asking.asked.ours().map_err(refusal_words), words) else { return };
+        for &value in &asking.values {
+            let color = said(legend.color_for_value(value, asking.nodata).map_err(refusal_words), words);
+            words.push(color.unwrap_or_default().word().into());
+        }
+    }
+
+    fn theirs(&self, asking: &Asking<T>, words: &mut Vec<u64>) {
+        let Some(legend) = said(asking.asked.theirs(), words) else { return };
+        for &value in &asking.values {
+            words.extend(DONE);
+            words.push(legend.color_for_value(value, asking.nodata).into());
+        }
+    }
+
+    fn smaller(&self, asking: &Asking<T>) -> Vec<Asking<T>> {
+        let lists = fewer(&asking.values).into_iter().map(|values| Asking { values, ..asking.clone() });
+        let asked = smaller_asked(&asking.asked).into_iter().map(|asked| Asking { asked, ..asking.clone() });
+        let without = asking.nodata.is_some().then(|| Asking { nodata: None, ..asking.clone() });
+        let single = if let [value] = asking.values[..] { value.plainer() } else { vec![] };
+        let single = single.into_iter().map(|value| Asking { values: vec![value], ..asking.clone() });
+        lists.chain(asked).chain(without).chain(single).collect()
+    }
+}
+
+/// Legends at random, 8 samples each, and a nodata value that may be among them.
+pub fn random<T: Drawn>(seed: u64, count: u64) -> Inputs<'static, Asking<T>> {
+    Inputs::new(count, move |number| {
+        let random = &mut Random::new(seed, number);
+        let asked = ask(random, Kinds::All);
+        let edges = edges(&asked);
+        let values: Vec<T> = (0..8).map(|_| T::draw(random, &edges, false)).collect();
+        let nodata = random.once_in(2).then(|| random.one_of(&values));
+        Asking { asked, values, nodata }
+    })
+}
