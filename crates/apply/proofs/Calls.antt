@@ -19,8 +19,8 @@ use Rattle.legend.specs.declared.Legend.{Legend}
 use Rattle.legend.specs.Record.{storedRefusal, simdSupported}
 use Rattle.legend.specs.Painters.{painter}
 use Rattle.legend.proofs.AnyKind.{stored-is, simd-is}
-use Rattle.apply.specs.Painting.{painted}
-use Rattle.apply.proofs.Lanes.{painted-lanes}
+use Rattle.paint_legend.specs.PlainOrLanes.{painted}
+use Rattle.paint_legend.proofs.Lanes.{painted-lanes}
 
 module _ (l : Legend) (nodata : Nodata) (xs : List Float) (out : List ℕ) (n : ℕ) (m : n ≡ length xs) (s a : Answer) (stored : s ≡ storedRefusal l) where
   abbrev p : Painter
@@ -57,13 +57,13 @@ module _ (l : Legend) (nodata : Nodata) (xs : List Float) (out : List ℕ) (n : 
         let f = lane-free s L (length scratch) n (length out) (sym d ∙ e) in
         record { sound = sym stored ∙ f .sound; count = f .count; room = f .room; same = f .same }
 
-    pub lanes-done : a ≡ Done → {out' scratch' : List ℕ} → out' ≡ painted p L xs → scratch' ≡ cond (simdSupported l) (scratchAfter L out' scratch) scratch → LanePainting p L xs out scratch a out' scratch'
-    lanes-done e {out'} w k =
+    pub lanes-done : a ≡ Done → {out' scratch' : List ℕ} {simd : Bool} → simd ≡ simdSupported l → out' ≡ painted p L xs → scratch' ≡ cond simd (scratchAfter L out' scratch) scratch → LanePainting p L xs out scratch a out' scratch'
+    lanes-done e {out'} supported w k =
         let sizes = lane-sizes L (lanes-free e .count) in
         let whole : List ℕ = cond (p .simd) (lanePainted L (p .chunk) (p .plain) xs) (plainPainted (p .plain) xs) in
         let kept : List ℕ = cond (p .simd) (scratchAfter L out' scratch) scratch in
         record {
           answered = lane-asked ∙ ap (λ (t : ℕ). laneRefusal (p .stored) L (length scratch) t (length out)) m;
           output = w ∙ sym (painted-lanes p L xs (λ (z : L ≡ 0). omega (arith, sizes .0, z))) ∙ sym (when-done whole out e);
-          kept = k ∙ ap (λ (b : Bool). cond b (scratchAfter L out' scratch) scratch) (sym (simd-is l nodata)) ∙ sym (when-done kept scratch e);
+          kept = k ∙ ap (λ (b : Bool). cond b (scratchAfter L out' scratch) scratch) (supported ∙ sym (simd-is l nodata)) ∙ sym (when-done kept scratch e);
         }

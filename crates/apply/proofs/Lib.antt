@@ -1,5 +1,5 @@
--- The laws that other crates cite, and what the proofs of this crate share.
-pub mod Lanes
+-- What the proofs of this crate share.
 mod Blocked
 mod Calls
 mod Listing
+mod Splits

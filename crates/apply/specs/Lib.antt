@@ -1,3 +1,2 @@
-pub mod Painting
 pub mod Values
 pub mod ColorLists

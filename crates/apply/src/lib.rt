@@ -18,9 +18,9 @@ ghost use Rattle.cast.specs.Samples.{ofU8, ofI16};
 ghost use Rattle.cast.specs.Nodata.{nodataU8, nodataI16};
 ghost use Rattle.painting.specs.Painted.{scratchAfter};
 ghost use Rattle.painting.specs.Contracts.{PlainPainting, LanePainting, laneCount};
-ghost use Rattle.legend.specs.Record.{storedRefusal, simdSupported};
+ghost use Rattle.legend.specs.Record.{storedRefusal};
 ghost use Rattle.legend.specs.Painters.{painter};
-ghost use Rattle.apply.specs.Painting.{painted, plainOrLanes};
+ghost use Rattle.paint_legend.specs.PlainOrLanes.{painted, plainOrLanes};
 ghost use Rattle.apply.specs.Values.{colorForValue};
 ghost use Rattle.apply.specs.ColorLists.{valueAt, colorList};
 
@@ -39,15 +39,15 @@ pub struct ColorList {
 // ---- samples that are f32
 
 // Plainly with 0 lanes, else in lanes; with an output of the raster's length.
-fn paint(legend: Legend, nodata: Nodata, lanes: usize, src: &[f32], out: &mut [u32])
-    requires { ⌜ (storedRefusal legend ≡ Done) × (plainOrLanes lanes ≡ true) × (length (now out) ≡ length (now src)) ⌝ }
-    ensures { λ _. ⌜ now (out .exit) ≡ painted (painter legend nodata) lanes (now (src .entry)) ⌝ }
+fn paint(legend: Legend, nodata: Nodata, l: usize, src: &[f32], out: &mut [u32])
+    requires { ⌜ (storedRefusal legend ≡ Done) × (plainOrLanes l ≡ true) × (length (now out) ≡ length (now src)) ⌝ }
+    ensures { λ _. ⌜ now (out .exit) ≡ painted (painter legend nodata) l (now (src .entry)) ⌝ }
 {
-    if lanes == 0 {
+    if l == 0 {
         paint_legend::paint(legend, nodata, src, out);
         return;
     }
-    paint_legend::paint_simd(legend, nodata, lanes, src, out);
+    paint_legend::paint_simd(legend, nodata, l, src, out);
 }
 
 // Plain painting.
@@ -83,17 +83,18 @@ pub fn apply_to_data_kernel(
     if let Answer::Refused(_) = answer {
         return answer;
     }
-    paint(legend, nodata, lanes, src, out);
-    keep(legend, lanes, out, scratch);
+    let simd = legend.simd_supported();
+    paint_legend::paint_simd(legend, nodata, lanes, src, out);
+    keep(simd, lanes, out, scratch);
     answer
 }
 
 // Scratch after lane painting: a legend without a rule for lanes, painted plainly, leaves it.
-fn keep(legend: Legend, lanes: usize, out: &[u32], scratch: &mut [u32])
+fn keep(simd: bool, lanes: usize, out: &[u32], scratch: &mut [u32])
     requires { ⌜ (0 < lanes) × (lanes ≤ length (now scratch)) ⌝ }
-    ensures { λ _. ⌜ now (scratch .exit) ≡ cond (simdSupported legend) (scratchAfter lanes (now (out .entry)) (now (scratch .entry))) (now (scratch .entry)) ⌝ }
+    ensures { λ _. ⌜ now (scratch .exit) ≡ cond simd (scratchAfter lanes (now (out .entry)) (now (scratch .entry))) (now (scratch .entry)) ⌝ }
 {
-    if legend.simd_supported() {
+    if simd {
         painting::keep_last(lanes, out, scratch);
     }
 }
@@ -183,8 +184,9 @@ pub fn apply_to_data_kernel_u8(
     if let Answer::Refused(_) = answer {
         return answer;
     }
+    let simd = legend.simd_supported();
     paint_u8(legend, cast::option_u8(nodata), lanes, src, out);
-    keep(legend, lanes, out, scratch);
+    keep(simd, lanes, out, scratch);
     answer
 }
 
@@ -273,8 +275,9 @@ pub fn apply_to_data_kernel_i16(
     if let Answer::Refused(_) = answer {
         return answer;
     }
+    let simd = legend.simd_supported();
     paint_i16(legend, cast::option_i16(nodata), lanes, src, out);
-    keep(legend, lanes, out, scratch);
+    keep(simd, lanes, out, scratch);
     answer
 }
 

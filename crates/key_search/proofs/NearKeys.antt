@@ -1,11 +1,10 @@
--- Keys near 0: one key more, each of them, and their narrowing to 32 bits. Assumes nothing.
-use mathlib.Core.Path.{_≡_, sym, subst}
-use mathlib.Core.Bool.{true, _&&_}
+-- Keys near 0: each of them is where the ends are, and their narrowing to 32 bits. Assumes nothing.
+use mathlib.Core.Path.{_≡_, refl, sym, subst, ap}
+use mathlib.Core.Bool.{Bool, true, false, _&&_}
 use mathlib.Core.List.{List}
 use mathlib.Core.Logic.{⊎-elim}
-use Prim.Native.Nat.{ℕ, zero, suc, _+_, _<_}
+use Prim.Native.Nat.{ℕ, zero, suc, _-_, _<_}
 use native.Mathlib.Nat.{eq-or-lt-of-le}
-use native.Mathlib.Numerals.{add-one}
 use native.Mathlib.Omega.{arith}
 use lib.Dec.{T, ltb→lt}
 use lib.Ieee.Fits.{and-l, and-r}
@@ -15,33 +14,52 @@ use lib.Signed.{mag, ltZ}
 use mir.Syntax.{w32}
 use mir.Val.{SFits}
 use Rattle.categories.specs.Ascending.{ascends}
-use Rattle.categories.proofs.Ascent.{lt-lt}
-use Rattle.key_search.specs.Searchable.{near, allNear, searchable}
+use Rattle.categories.proofs.Ascent.{lt-lt, counted-below}
+use Rattle.key_search.specs.Searchable.{near, endsNear, searchable}
 use Rattle.key_search.specs.Narrow.{none}
 
-pub one-more : (keys : List ℤ) (i : ℕ) → allNear keys (i + 1) ≡ (allNear keys i && near (getD keys i (pos 0)))
-unfolding allNear
-one-more keys i = rw (add-one i)
+both-of : (a b : Bool) → T a → T b → T (a && b)
+both-of true b x y = y
+both-of false b x y = absurd x
 
-near-at : (keys : List ℤ) (count : ℕ) → T (allNear keys count) → (j : ℕ) → j < count → T (near (getD keys j (pos 0)))
-unfolding allNear
-near-at keys zero h j q = absurd (omega arith)
-near-at keys (suc n) h j q =
+-- what lies between two numbers near 0 is near it
+near-between : (a z b : ℤ) → T (near a) → T (near b) → T (ltZ a z) → T (ltZ z b) → T (near z)
+unfolding near
+near-between a z b l h p q =
+    both-of (ltZ none z) (ltZ z (pos 16777217))
+    (lt-lt none a z (and-l (ltZ none a) (ltZ a (pos 16777217)) l) p)
+    (lt-lt z b (pos 16777217) q (and-r (ltZ none b) (ltZ b (pos 16777217)) h))
+
+near-at : (keys : List ℤ) (count : ℕ) → T (ascends keys count) → T (endsNear keys count) → (j : ℕ) → j < count → T (near (getD keys j (pos 0)))
+unfolding endsNear
+near-at keys zero u h j q = absurd (omega arith)
+near-at keys (suc n) u h j q =
+    let first = and-l (near (getD keys 0 (pos 0))) (near (getD keys n (pos 0))) h in
+    let last = and-r (near (getD keys 0 (pos 0))) (near (getD keys n (pos 0))) h in
     ⊎-elim
-    (λ (e : j ≡ n). subst (λ (k : ℕ). T (near (getD keys k (pos 0)))) (sym e) (and-r (allNear keys n) (near (getD keys n (pos 0))) h))
-    (λ (l : j < n). near-at keys n (and-l (allNear keys n) (near (getD keys n (pos 0))) h) j l)
+    (λ (e : 0 ≡ j). subst (λ (k : ℕ). T (near (getD keys k (pos 0)))) e first)
+    (λ (l : 0 < j). ⊎-elim
+    (λ (e : j ≡ n). subst (λ (k : ℕ). T (near (getD keys k (pos 0)))) (sym e) last)
+    (λ (m : j < n). near-between (getD keys 0 (pos 0)) (getD keys j (pos 0)) (getD keys n (pos 0)) first last (counted-below keys (suc n) u 0 j l q) (counted-below keys (suc n) u j n m (omega arith)))
+    (eq-or-lt-of-le (omega arith)))
     (eq-or-lt-of-le (omega arith))
 
 module _ (keys : List ℤ) (count : ℕ) (h : searchable keys count ≡ true) where
-  both : T (ascends keys count && allNear keys count)
+  both : T (ascends keys count && endsNear keys count)
   unfolding searchable
   both = subst T (sym h) tt
 
   pub they-ascend : T (ascends keys count)
-  they-ascend = and-l (ascends keys count) (allNear keys count) both
+  they-ascend = and-l (ascends keys count) (endsNear keys count) both
 
   pub they-are-near : (j : ℕ) → j < count → T (near (getD keys j (pos 0)))
-  they-are-near = near-at keys count (and-r (ascends keys count) (allNear keys count) both)
+  they-are-near = near-at keys count they-ascend (and-r (ascends keys count) (endsNear keys count) both)
+
+-- the ends of some keys
+pub ends-of : (keys : List ℤ) (count : ℕ) → (count ≡ 0 → ⊥) → (near (getD keys 0 (pos 0)) && near (getD keys (count - 1) (pos 0))) ≡ endsNear keys count
+unfolding endsNear
+ends-of keys zero n = absurd (n refl)
+ends-of keys (suc m) n = let last : suc m - 1 ≡ m = omega arith in ap (λ (j : ℕ). near (getD keys 0 (pos 0)) && near (getD keys j (pos 0))) last
 
 -- ---- one number
 pub near-below : (z : ℤ) → T (near z) → T (ltZ z (pos 2147483647))

@@ -11,10 +11,11 @@ use Rattle.categories.specs.Ascending.{ascends}
 unfoldable pub near : ℤ → Bool
 near z = ltZ (negsuc 16777216) z && ltZ z (pos 16777217)
 
--- each of the counted keys
-unfoldable pub allNear : (keys : List ℤ) (count : ℕ) → Bool
-allNear keys zero = true
-allNear keys (suc n) = allNear keys n && near (getD keys n (pos 0))
+-- the first and the last of the counted keys
+unfoldable pub endsNear : (keys : List ℤ) (count : ℕ) → Bool
+endsNear keys zero = true
+endsNear keys (suc n) = near (getD keys 0 (pos 0)) && near (getD keys n (pos 0))
 
+-- and so each of them
 unfoldable pub searchable : (keys : List ℤ) (count : ℕ) → Bool
-searchable keys count = ascends keys count && allNear keys count
+searchable keys count = ascends keys count && endsNear keys count

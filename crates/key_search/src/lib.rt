@@ -11,7 +11,7 @@ ghost use lib.ListN.{getD};
 ghost use Rattle.cast.specs.Truncated.{truncated};
 ghost use Rattle.categories.specs.Rule.{eqZ, keyColor};
 ghost use Rattle.lists.specs.Lanes.{Lanes};
-ghost use Rattle.key_search.specs.Searchable.{allNear, searchable};
+ghost use Rattle.key_search.specs.Searchable.{near, endsNear, searchable};
 ghost use Rattle.key_search.specs.Narrow.{Narrow, keyOf};
 ghost use Rattle.key_search.specs.Halving.{half, Within};
 
@@ -23,22 +23,27 @@ pub fn searchable(keys: &[i64; 256], count: usize) -> bool
     ensures { λ r. ⌜ r ≡ searchable (now (keys .entry)) count ⌝ }
 {
     let up = categories::ascending(keys, count);
-    let near = in_range(keys, count);
-    up & near
+    let ends = ends_near(keys, count);
+    up & ends
 }
 
-// Whether each of the counted keys lies in that range.
-fn in_range(keys: &[i64; 256], count: usize) -> bool
+// Whether the first and the last of the counted keys lie in that range: those between them do where they ascend.
+fn ends_near(keys: &[i64; 256], count: usize) -> bool
     requires { ⌜ count ≤ 256 ⌝ }
-    ensures { λ r. ⌜ r ≡ allNear (now (keys .entry)) count ⌝ }
+    ensures { λ r. ⌜ r ≡ endsNear (now (keys .entry)) count ⌝ }
 {
-    let mut result = true;
-    let mut i: usize = 0;
-    while i < count {
-        result = result & ((-16777217 < keys[i]) & (keys[i] < 16777217));
-        i += 1;
+    if count == 0 {
+        return true;
     }
-    result
+    let last = count - 1;
+    near(keys[0]) & near(keys[last])
+}
+
+// Whether a key lies in that range.
+fn near(key: i64) -> bool
+    ensures { λ r. ⌜ r ≡ near key ⌝ }
+{
+    (-16777217 < key) & (key < 16777217)
 }
 
 // The counted keys as i32, then 2,147,483,647, which is above every key.
@@ -76,7 +81,9 @@ pub fn colors_for_numeric_values(
     let g = halved(narrow, 4, key, f);
     let h = halved(narrow, 2, key, g);
     let i = halved(narrow, 1, key, h);
-    colors_at(narrow, colors, i, key, nodata)
+    let found = keys_at(narrow, i);
+    let words = colors_at(colors, i);
+    known(key, found, words, nodata)
 }
 
 // Each sample's key.
@@ -106,8 +113,7 @@ fn narrowed_sample(value: f32) -> i32
 fn narrowed_key(key: i64) -> i32
     ensures { λ r. ⌜ r ≡ keyOf (Truncated.Whole key) ⌝ }
 {
-    let inside = (-16777217 < key) & (key < 16777217);
-    let kept = if inside { key } else { -16777217 };
+    let kept = if near(key) { key } else { -16777217 };
     kept as i32
 }
 
@@ -126,22 +132,46 @@ fn halved(narrow: &[i32; 256], step: u32, key: [i32; 16], places: [u32; 16]) -> 
     result
 }
 
-// The colours at the places where the keys are, nodata elsewhere.
-fn colors_at(
-    narrow: &[i32; 256],
-    colors: &[u32; 256],
-    places: [u32; 16],
-    key: [i32; 16],
-    nodata: u32,
-) -> [u32; 16]
+// The samples' keys are compared in two phases: a load under a branch is not vectorised.
+
+// The keys at the places.
+fn keys_at(narrow: &[i32; 256], places: [u32; 16]) -> [i32; 16]
     requires { ⌜ Within 1 places ⌝ }
-    ensures { λ r. ⌜ Lanes 0 16 r (λ k. cond (eqZ (getD (now (narrow .entry)) (getD places k 0) (pos 0)) (getD key k (pos 0))) (getD (now (colors .entry)) (getD places k 0) 0) nodata) ⌝ }
+    ensures { λ r. ⌜ Lanes (pos 0) 16 r (λ k. getD (now (narrow .entry)) (getD places k 0) (pos 0)) ⌝ }
+{
+    let mut result = [0i32; 16];
+    let mut i: usize = 0;
+    while i < 16 {
+        let place = places[i] as usize;
+        result[i] = narrow[place];
+        i += 1;
+    }
+    result
+}
+
+// The colours at the places.
+fn colors_at(colors: &[u32; 256], places: [u32; 16]) -> [u32; 16]
+    requires { ⌜ Within 1 places ⌝ }
+    ensures { λ r. ⌜ Lanes 0 16 r (λ k. getD (now (colors .entry)) (getD places k 0) 0) ⌝ }
 {
     let mut result = [0u32; 16];
     let mut i: usize = 0;
     while i < 16 {
         let place = places[i] as usize;
-        result[i] = pick(narrow[place] == key[i], colors[place], nodata);
+        result[i] = colors[place];
+        i += 1;
+    }
+    result
+}
+
+// The words of the samples whose key was found, nodata for others.
+fn known(key: [i32; 16], found: [i32; 16], words: [u32; 16], nodata: u32) -> [u32; 16]
+    ensures { λ r. ⌜ Lanes 0 16 r (λ k. cond (eqZ (getD found k (pos 0)) (getD key k (pos 0))) (getD words k 0) nodata) ⌝ }
+{
+    let mut result = [0u32; 16];
+    let mut i: usize = 0;
+    while i < 16 {
+        result[i] = pick(found[i] == key[i], words[i], nodata);
         i += 1;
     }
     result

@@ -273,6 +273,9 @@ fn rest(
     ensures { λ _. ⌜ now (out .exit) ≡ take base (now (out .entry)) ++ map (plainSample (packed (now (starts .entry)) (now (ends .entry)) (now (colors .entry)) (p .count)) p) (drop base (now (src .entry))) ⌝ }
 {
     let m = src.len() - base;
+    if m == 0 {
+        return;
+    }
     let v = painting::load(m, src, base);
     painting::store(m, words(starts, ends, colors, p, search, v), base, out);
 }

@@ -104,6 +104,9 @@ fn rest(
     ensures { λ _. ⌜ now (out .exit) ≡ take base (now (out .entry)) ++ map (tableSample (now (lookup .entry)) size p) (drop base (now (src .entry))) ⌝ }
 {
     let m = src.len() - base;
+    if m == 0 {
+        return;
+    }
     let v = painting::load(m, src, base);
     painting::store(m, words16(lookup, size, p, v), base, out);
 }
@@ -192,6 +195,9 @@ fn rest_by_search(
     ensures { λ _. ⌜ ((keys : List ℤ) (count : ℕ) → Narrow keys count (now (narrow .entry)) → now (out .exit) ≡ take base (now (out .entry)) ++ map (keySample keys (now (colors .entry)) count p) (drop base (now (src .entry)))) ⌝ }
 {
     let m = src.len() - base;
+    if m == 0 {
+        return;
+    }
     let v = painting::load(m, src, base);
     painting::store(m, words_by_search(narrow, colors, p, v), base, out);
 }

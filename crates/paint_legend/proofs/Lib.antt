@@ -1,2 +1,3 @@
--- What the proofs of this crate share.
+-- The laws that other crates cite, and what the proofs of this crate share.
+pub mod Lanes
 mod Same

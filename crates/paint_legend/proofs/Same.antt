@@ -1,6 +1,6 @@
 -- What the painters of each kind are handed is what the legend's painter says: the sample's rule and the chunk's. Assumes nothing.
-use mathlib.Core.Path.{_≡_, sym, ap, ap₂, fun-ext, _∙_}
-use mathlib.Core.Bool.{Bool, cond}
+use mathlib.Core.Path.{_≡_, refl, sym, ap, ap₂, fun-ext, _∙_}
+use mathlib.Core.Bool.{Bool, true, false}
 use mathlib.Core.List.{List, map}
 use Prim.Native.Nat.{ℕ, _≤_, _<_}
 use borrow.Author.Tests.{lt-ltb}
@@ -42,6 +42,10 @@ module _ (config : MappingConfig) (nodata : Nodata) where
   tested = test-is nodata (config .«zero_is_nodata»)
 
   module _ (l : Linear) where
+    pub linear-simd : linearPainter l config nodata .simd ≡ true
+    unfolding linearPainter
+    linear-simd = refl
+
     pub linear-sample : linearly.plainSample (l .cmap) (linearPaint l config nodata) ≡ linearPainter l config nodata .plain
     unfolding linearPainter linearColors
     linear-sample = ap (λ t. maskedColor t (config .«nodata_color») (linear.plainColor (l .cmap) (l .start) (l .end) (linearColors (l .cmap) config))) tested
@@ -51,6 +55,10 @@ module _ (config : MappingConfig) (nodata : Nodata) where
     linear-chunk = ap (λ t vs. masked t (config .«nodata_color») vs (linear.laneColors (l .cmap) (l .start) (l .end) (linearColors (l .cmap) config) vs)) tested
 
   module _ (b : Banded) where
+    pub banded-simd : bandedPainter b config nodata .simd ≡ true
+    unfolding bandsPainter
+    banded-simd = refl
+
     banded-sample : bandedly.plainSample (counted b) (bandedPaint b config nodata) ≡ bandedPainter b config nodata .plain
     unfolding bandsPainter
     banded-sample = ap (λ t. maskedColor t (config .«nodata_color») (bands.plainColor (counted b) (bandedUnmappable (counted b) config))) tested
@@ -77,6 +85,14 @@ module _ (config : MappingConfig) (nodata : Nodata) where
       bands-chunk = ap (λ (q : BandedPaint). bandedly.laneChunk (packed starts ends colors (q .count)) q) paint ∙ ap (λ (bs : List LegendBand). bandedly.laneChunk bs (bandedPaint b config nodata)) counted-is ∙ banded-chunk
 
   module _ (c : CategoricNumeric) where
+    pub table-simd : 0 < c .«lookup_count» → categoricPainter c config nodata .simd ≡ true
+    unfolding categoricPainter
+    table-simd h = lt-ltb 0 (c .«lookup_count») h
+
+    pub keys-simd : c .«lookup_count» ≡ 0 → categoricPainter c config nodata .simd ≡ false
+    unfolding categoricPainter
+    keys-simd e = ap (ltb 0) e
+
     pub table-sample : 0 < c .«lookup_count» → tableSample (c .lookup) (c .«lookup_count») (categoricPaint config nodata) ≡ categoricPainter c config nodata .plain
     unfolding categoricPainter
     table-sample h =
@@ -93,11 +109,3 @@ module _ (config : MappingConfig) (nodata : Nodata) where
         ap₂ (λ t rule. maskedColor t (config .«nodata_color») rule) tested
         (fun-ext (without-table (c .keys) (c .colors) (c .count) (c .lookup) 0 (config .«nodata_color»))
         ∙ ap (λ (size : ℕ). categories.plainColor (c .keys) (c .colors) (c .count) (c .lookup) size (config .«nodata_color»)) (sym e))
-
--- with a table or without one
-module _ {A : Type 0} (size : ℕ) (x y : A) where
-  pub with-none : size ≡ 0 → y ≡ cond (ltb 0 size) x y
-  with-none e = sym (ap (λ (n : ℕ). cond (ltb 0 n) x y) e)
-
-  pub with-some : 0 < size → x ≡ cond (ltb 0 size) x y
-  with-some h = sym (ap (λ (b : Bool). cond b x y) (lt-ltb 0 size h))

@@ -1,1 +1,2 @@
 pub mod Paints
+pub mod PlainOrLanes

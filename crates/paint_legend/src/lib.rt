@@ -12,8 +12,7 @@ use paint_categoric::CategoricPaint;
 use paint_linear::LinearPaint;
 ghost use mathlib.Core.Path.{_≡_};
 ghost use mathlib.Core.Bool.{true, cond};
-ghost use Prim.Native.Nat.{_≤_};
-ghost use lib.Dec.{ltb};
+ghost use Prim.Native.Nat.{_<_, _≤_};
 ghost use lib.ListN.{length};
 ghost use Rattle.refusal.specs.declared.Answer.the-variants.{Done};
 ghost use Rattle.painting.specs.Painted.{plainPainted, lanePainted};
@@ -21,6 +20,7 @@ ghost use Rattle.painting.specs.Contracts.{laneCount};
 ghost use Rattle.legend.specs.Record.{storedRefusal};
 ghost use Rattle.legend.specs.Painters.{painter, linearPainter, bandedPainter, categoricPainter};
 ghost use Rattle.paint_legend.specs.Paints.{linearPaint, bandedPaint, categoricPaint};
+ghost use Rattle.paint_legend.specs.PlainOrLanes.{painted, plainOrLanes};
 
 // ---- what each kind's painters are handed
 
@@ -78,43 +78,37 @@ fn paint_banded(banded: Banded, config: MappingConfig, nodata: Nodata, src: &[f3
     paint_banded::paint(&starts, &ends, &colors, p, src, out);
 }
 
-fn paint_categoric(
+// By its table.
+fn paint_table(
     categoric: CategoricNumeric,
     config: MappingConfig,
     nodata: Nodata,
     src: &[f32],
     out: &mut [u32],
 )
-    requires { ⌜ (categoric .count ≤ 256) × (categoric .«lookup_count» ≤ 513) × (length (now out) ≡ length (now src)) ⌝ }
+    requires { ⌜ (0 < categoric .«lookup_count») × (categoric .«lookup_count» ≤ 513) × (length (now out) ≡ length (now src)) ⌝ }
     ensures { λ _. ⌜ now (out .exit) ≡ plainPainted (categoricPainter categoric config nodata .plain) (now (src .entry)) ⌝ }
 {
     let p = categoric_paint(config, nodata);
-    let size = categoric.lookup_count;
-    if size == 0 {
-        let keys = categoric.keys;
-        let colors = categoric.colors;
-        paint_categoric::paint_by_keys(&keys, &colors, categoric.count, p, src, out);
-        return;
-    }
     let lookup = categoric.lookup;
-    paint_categoric::paint_by_table(&lookup, size, p, src, out);
+    paint_categoric::paint_by_table(&lookup, categoric.lookup_count, p, src, out);
 }
 
-// Sample by sample, with an output of the raster's length.
-pub fn paint(legend: Legend, nodata: Nodata, src: &[f32], out: &mut [u32])
-    requires { ⌜ (storedRefusal legend ≡ Done) × (length (now out) ≡ length (now src)) ⌝ }
-    ensures { λ _. ⌜ now (out .exit) ≡ plainPainted (painter legend nodata .plain) (now (src .entry)) ⌝ }
+// By its keys: it has no table.
+fn paint_keys(
+    categoric: CategoricNumeric,
+    config: MappingConfig,
+    nodata: Nodata,
+    src: &[f32],
+    out: &mut [u32],
+)
+    requires { ⌜ (categoric .count ≤ 256) × (categoric .«lookup_count» ≡ 0) × (length (now out) ≡ length (now src)) ⌝ }
+    ensures { λ _. ⌜ now (out .exit) ≡ plainPainted (categoricPainter categoric config nodata .plain) (now (src .entry)) ⌝ }
 {
-    let config = legend.mapping_config;
-    let linear = legend.linear;
-    let banded = legend.banded;
-    let categoric = legend.categoric;
-    let kind = legend.kind;
-    match kind {
-        LegendKind::Linear => paint_linear(linear, config, nodata, src, out),
-        LegendKind::Banded => paint_banded(banded, config, nodata, src, out),
-        LegendKind::CategoricNumeric => paint_categoric(categoric, config, nodata, src, out),
-    }
+    let p = categoric_paint(config, nodata);
+    let keys = categoric.keys;
+    let colors = categoric.colors;
+    paint_categoric::paint_by_keys(&keys, &colors, categoric.count, p, src, out);
 }
 
 // ---- lane painting
@@ -154,8 +148,7 @@ fn paint_banded_simd(
     paint_banded::paint_simd(&starts, &ends, &colors, p, l, src, out);
 }
 
-// A categoric legend without a table is painted plainly.
-fn paint_categoric_simd(
+fn paint_table_simd(
     categoric: CategoricNumeric,
     config: MappingConfig,
     nodata: Nodata,
@@ -163,17 +156,95 @@ fn paint_categoric_simd(
     src: &[f32],
     out: &mut [u32],
 )
-    requires { ⌜ (categoric .count ≤ 256) × (categoric .«lookup_count» ≤ 513) × (laneCount l ≡ true) × (length (now out) ≡ length (now src)) ⌝ }
-    ensures { λ _. ⌜ now (out .exit) ≡ cond (ltb 0 (categoric .«lookup_count»)) (lanePainted l (categoricPainter categoric config nodata .chunk) (categoricPainter categoric config nodata .plain) (now (src .entry))) (plainPainted (categoricPainter categoric config nodata .plain) (now (src .entry))) ⌝ }
+    requires { ⌜ (0 < categoric .«lookup_count») × (categoric .«lookup_count» ≤ 513) × (laneCount l ≡ true) × (length (now out) ≡ length (now src)) ⌝ }
+    ensures { λ _. ⌜ now (out .exit) ≡ lanePainted l (categoricPainter categoric config nodata .chunk) (categoricPainter categoric config nodata .plain) (now (src .entry)) ⌝ }
 {
-    let size = categoric.lookup_count;
-    if size == 0 {
-        paint_categoric(categoric, config, nodata, src, out);
-        return;
-    }
     let p = categoric_paint(config, nodata);
     let lookup = categoric.lookup;
-    paint_categoric::paint_by_table_simd(&lookup, size, p, l, src, out);
+    paint_categoric::paint_by_table_simd(&lookup, categoric.lookup_count, p, l, src, out);
+}
+
+// ---- a kind, plainly with 0 lanes, else in lanes. Each is called from `paint` and from `paint_simd`, and so stays a call:
+// these two are then inlined, and of a legend the record of its kind alone is copied.
+
+fn linear_plain_or_lanes(
+    linear: Linear,
+    config: MappingConfig,
+    nodata: Nodata,
+    lanes: usize,
+    src: &[f32],
+    out: &mut [u32],
+)
+    requires { ⌜ (plainOrLanes lanes ≡ true) × (length (now out) ≡ length (now src)) ⌝ }
+    ensures { λ _. ⌜ now (out .exit) ≡ painted (linearPainter linear config nodata) lanes (now (src .entry)) ⌝ }
+{
+    if lanes == 0 {
+        paint_linear(linear, config, nodata, src, out);
+        return;
+    }
+    paint_linear_simd(linear, config, nodata, lanes, src, out);
+}
+
+fn banded_plain_or_lanes(
+    banded: Banded,
+    config: MappingConfig,
+    nodata: Nodata,
+    lanes: usize,
+    src: &[f32],
+    out: &mut [u32],
+)
+    requires { ⌜ (banded .count ≤ 64) × (plainOrLanes lanes ≡ true) × (length (now out) ≡ length (now src)) ⌝ }
+    ensures { λ _. ⌜ now (out .exit) ≡ painted (bandedPainter banded config nodata) lanes (now (src .entry)) ⌝ }
+{
+    if lanes == 0 {
+        paint_banded(banded, config, nodata, src, out);
+        return;
+    }
+    paint_banded_simd(banded, config, nodata, lanes, src, out);
+}
+
+// Without a table it has no rule for lanes.
+fn categoric_plain_or_lanes(
+    categoric: CategoricNumeric,
+    config: MappingConfig,
+    nodata: Nodata,
+    lanes: usize,
+    src: &[f32],
+    out: &mut [u32],
+)
+    requires { ⌜ (categoric .count ≤ 256) × (categoric .«lookup_count» ≤ 513) × (plainOrLanes lanes ≡ true) × (length (now out) ≡ length (now src)) ⌝ }
+    ensures { λ _. ⌜ now (out .exit) ≡ painted (categoricPainter categoric config nodata) lanes (now (src .entry)) ⌝ }
+{
+    if categoric.lookup_count == 0 {
+        paint_keys(categoric, config, nodata, src, out);
+        return;
+    }
+    if lanes == 0 {
+        paint_table(categoric, config, nodata, src, out);
+        return;
+    }
+    paint_table_simd(categoric, config, nodata, lanes, src, out);
+}
+
+// ---- a legend of any kind
+
+// Sample by sample, with an output of the raster's length.
+pub fn paint(legend: Legend, nodata: Nodata, src: &[f32], out: &mut [u32])
+    requires { ⌜ (storedRefusal legend ≡ Done) × (length (now out) ≡ length (now src)) ⌝ }
+    ensures { λ _. ⌜ now (out .exit) ≡ plainPainted (painter legend nodata .plain) (now (src .entry)) ⌝ }
+{
+    let config = legend.mapping_config;
+    let linear = legend.linear;
+    let banded = legend.banded;
+    let categoric = legend.categoric;
+    let kind = legend.kind;
+    match kind {
+        LegendKind::Linear => linear_plain_or_lanes(linear, config, nodata, 0, src, out),
+        LegendKind::Banded => banded_plain_or_lanes(banded, config, nodata, 0, src, out),
+        LegendKind::CategoricNumeric => {
+            categoric_plain_or_lanes(categoric, config, nodata, 0, src, out)
+        }
+    }
 }
 
 // Chunks of l samples by the lane rule, then the rest plainly; a legend without a rule for lanes plainly.
@@ -187,10 +258,10 @@ pub fn paint_simd(legend: Legend, nodata: Nodata, l: usize, src: &[f32], out: &m
     let categoric = legend.categoric;
     let kind = legend.kind;
     match kind {
-        LegendKind::Linear => paint_linear_simd(linear, config, nodata, l, src, out),
-        LegendKind::Banded => paint_banded_simd(banded, config, nodata, l, src, out),
+        LegendKind::Linear => linear_plain_or_lanes(linear, config, nodata, l, src, out),
+        LegendKind::Banded => banded_plain_or_lanes(banded, config, nodata, l, src, out),
         LegendKind::CategoricNumeric => {
-            paint_categoric_simd(categoric, config, nodata, l, src, out)
+            categoric_plain_or_lanes(categoric, config, nodata, l, src, out)
         }
     }
 }

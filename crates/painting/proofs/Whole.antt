@@ -36,6 +36,13 @@ rest-is plain xs out i L d v g h o p q r =
     ∙ ap (λ (w : List ℕ). take i out ++ map plain (drop i xs) ++ w) b
     ∙ append-nil (take i out ++ map plain (drop i xs))
 
+-- none is left
+pub rest-none : (plain : Float → ℕ) (xs : List Float) (out : List ℕ) (i : ℕ) → length xs - i ≡ 0 → length out ≡ length xs → out ≡ take i out ++ map plain (drop i xs)
+rest-none plain xs out i e o =
+    sym
+    (ap (λ (ys : List Float). take i out ++ map plain ys) (drop-of-length-le xs {i = i} (omega (arith, e)))
+    ∙ append-nil (take i out) ∙ take-all i out (omega (arith, e, o)))
+
 -- ---- the raster has n samples, and xs are these as f32. Refused, with everything as it was, and done
 module _ (p : Painter) (xs : List Float) (out : List ℕ) {n : ℕ} (m : n ≡ length xs) {a : Answer} where
   pub plain-refused : a ≡ plainRefusal (p .stored) n (length out) → {why : Refusal} → a ≡ Refused why → PlainPainting p xs out a out

@@ -1,9 +1,10 @@
 -- `apply_to_data_kernel` meets its contract. Assumes nothing.
-use mathlib.Core.Path.{refl}
+use mathlib.Core.Path.{refl, _∙_}
 use native.Mathlib.Omega.{arith}
 use lib.ListN.{length}
 use Rattle.painting.proofs.Refusals.{lane-sizes}
-use Rattle.apply.proofs.Lanes.{count-lanes}
+use Rattle.legend.specs.Painters.{painter}
+use Rattle.paint_legend.proofs.Lanes.{painted-lanes, not-none}
 use Rattle.apply.proofs.Calls.{lanes-refused, lanes-free, lanes-done}
 use borrow.Author.Needs.{needs}
 use Rattle.apply.proofs.apply_to_data_kernel.Statement.{statement}
@@ -24,11 +25,14 @@ returns c = let a = c .before .before .before .before .before .before .before .a
 enum-told-2 : tie.Need-enum-told-2
 enum-told-2 c = search needs
 
-paint-requires : tie.Need-paint-requires
-paint-requires c κs = let a = c .before .before .before .before .before .before .before .before .args in let f = lanes-free (a .legend) (a .nodata) (a .src .now) (a .out .now) (length (a .src .now)) (refl) (c .before .before .before .before .stored-refusal .result) (c .before .before .before .lane-refusal .result) (c .before .before .before .before .stored-refusal .ensures) (a .lanes) (a .scratch .now) (c .before .before .before .lane-refusal .ensures) (c .before .enum-told2 .given .1) in (f .sound, count-lanes (a .lanes) (f .count), f .same)
+simd-supported-requires : tie.Need-simd-supported-requires
+simd-supported-requires c κs = search needs
+
+paint-simd-requires : tie.Need-paint-simd-requires
+paint-simd-requires c κs = let a = c .before .before .before .before .before .before .before .before .before .args in let f = lanes-free (a .legend) (a .nodata) (a .src .now) (a .out .now) (length (a .src .now)) (refl) (c .before .before .before .before .before .stored-refusal .result) (c .before .before .before .before .lane-refusal .result) (c .before .before .before .before .before .stored-refusal .ensures) (a .lanes) (a .scratch .now) (c .before .before .before .before .lane-refusal .ensures) (c .before .before .enum-told2 .given .1) in (f .sound, f .count, f .same)
 
 keep-requires : tie.Need-keep-requires
-keep-requires c κs = let a = c .before .before .before .before .before .before .before .before .before .before .before .before .before .args in let f = lanes-free (a .legend) (a .nodata) (a .src .now) (a .out .now) (length (a .src .now)) (refl) (c .before .before .before .before .before .before .before .before .before .stored-refusal .result) (c .before .before .before .before .before .before .before .before .lane-refusal .result) (c .before .before .before .before .before .before .before .before .before .stored-refusal .ensures) (a .lanes) (a .scratch .now) (c .before .before .before .before .before .before .before .before .lane-refusal .ensures) (c .before .before .before .before .before .before .enum-told2 .given .1) in let z = lane-sizes (a .lanes) (f .count) in (z .0, omega (arith, f .room, z .1))
+keep-requires c κs = let a = c .before .before .before .before .before .before .before .before .before .before .before .before .before .before .args in let f = lanes-free (a .legend) (a .nodata) (a .src .now) (a .out .now) (length (a .src .now)) (refl) (c .before .before .before .before .before .before .before .before .before .before .stored-refusal .result) (c .before .before .before .before .before .before .before .before .before .lane-refusal .result) (c .before .before .before .before .before .before .before .before .before .before .stored-refusal .ensures) (a .lanes) (a .scratch .now) (c .before .before .before .before .before .before .before .before .before .lane-refusal .ensures) (c .before .before .before .before .before .before .before .enum-told2 .given .1) in let z = lane-sizes (a .lanes) (f .count) in (z .0, omega (arith, f .room, z .1))
 
 same-length : tie.Need-same-length
 same-length c = search needs
@@ -37,7 +41,7 @@ same-length-2 : tie.Need-same-length-2
 same-length-2 c = search needs
 
 returns-2 : tie.Need-returns-2
-returns-2 c = let a = c .before .before .before .before .before .before .before .before .before .before .before .before .before .before .before .before .args in lanes-done (a .legend) (a .nodata) (a .src .now) (a .out .now) (length (a .src .now)) (refl) (c .before .before .before .before .before .before .before .before .before .before .before .before .stored-refusal .result) (c .before .before .before .before .before .before .before .before .before .before .before .lane-refusal .result) (c .before .before .before .before .before .before .before .before .before .before .before .before .stored-refusal .ensures) (a .lanes) (a .scratch .now) (c .before .before .before .before .before .before .before .before .before .before .before .lane-refusal .ensures) (c .before .before .before .before .before .before .before .before .before .enum-told2 .given .1) (c .before .before .before .before .before .before .before .paint .ensures) (c .before .before .keep .ensures)
+returns-2 c = let a = c .before .before .before .before .before .before .before .before .before .before .before .before .before .before .before .before .before .args in let f = lanes-free (a .legend) (a .nodata) (a .src .now) (a .out .now) (length (a .src .now)) (refl) (c .before .before .before .before .before .before .before .before .before .before .before .before .before .stored-refusal .result) (c .before .before .before .before .before .before .before .before .before .before .before .before .lane-refusal .result) (c .before .before .before .before .before .before .before .before .before .before .before .before .before .stored-refusal .ensures) (a .lanes) (a .scratch .now) (c .before .before .before .before .before .before .before .before .before .before .before .before .lane-refusal .ensures) (c .before .before .before .before .before .before .before .before .before .before .enum-told2 .given .1) in lanes-done (a .legend) (a .nodata) (a .src .now) (a .out .now) (length (a .src .now)) (refl) (c .before .before .before .before .before .before .before .before .before .before .before .before .before .stored-refusal .result) (c .before .before .before .before .before .before .before .before .before .before .before .before .lane-refusal .result) (c .before .before .before .before .before .before .before .before .before .before .before .before .before .stored-refusal .ensures) (a .lanes) (a .scratch .now) (c .before .before .before .before .before .before .before .before .before .before .before .before .lane-refusal .ensures) (c .before .before .before .before .before .before .before .before .before .before .enum-told2 .given .1) (c .before .before .before .before .before .before .before .before .before .simd-supported .ensures) (c .before .before .before .before .before .before .before .paint-simd .ensures ∙ painted-lanes (painter (a .legend) (a .nodata)) (a .lanes) (a .src .now) (not-none (a .lanes) (f .count))) (c .before .before .keep .ensures)
 
 pub apply-to-data-kernel-spec : {M : Type 1} → statement M
 apply-to-data-kernel-spec =
@@ -48,7 +52,8 @@ apply-to-data-kernel-spec =
     enum-told
     returns
     enum-told-2
-    paint-requires
+    simd-supported-requires
+    paint-simd-requires
     keep-requires
     same-length
     same-length-2

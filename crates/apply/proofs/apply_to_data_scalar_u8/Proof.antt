@@ -5,7 +5,7 @@ use lib.ListN.{length, length-map}
 use Rattle.cast.specs.Samples.{ofU8}
 use Rattle.cast.specs.Nodata.{nodataU8}
 use Rattle.legend.specs.Painters.{painter}
-use Rattle.apply.specs.Painting.{painted}
+use Rattle.paint_legend.specs.PlainOrLanes.{painted}
 use Rattle.apply.proofs.Calls.{plainly-refused, plainly-free, plainly-done}
 use borrow.Author.Needs.{needs}
 use Rattle.apply.proofs.apply_to_data_scalar_u8.Statement.{statement}

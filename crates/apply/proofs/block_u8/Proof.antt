@@ -7,7 +7,7 @@ use lib.ListN.{length, take, drop, length-drop}
 use lib.Seq.{length-take-le}
 use Rattle.cast.specs.Samples.{ofU8}
 use Rattle.legend.specs.Painters.{painter}
-use Rattle.apply.specs.Painting.{painted}
+use Rattle.paint_legend.specs.PlainOrLanes.{painted}
 use Rattle.apply.proofs.Blocked.{block-is}
 use borrow.Author.Needs.{needs}
 use Rattle.apply.proofs.block_u8.Statement.{statement}

@@ -9,8 +9,8 @@ use Rattle.cast.specs.Samples.{ofU8}
 use Rattle.painting.proofs.Blocks.{InBlocks, blocks-start, block-turn, blocks-end}
 use Rattle.legend.specs.Painters.{painter}
 use Rattle.legend.proofs.AnyKind.{chunk-long}
-use Rattle.apply.specs.Painting.{painted}
-use Rattle.apply.proofs.Lanes.{splits}
+use Rattle.paint_legend.specs.PlainOrLanes.{painted}
+use Rattle.apply.proofs.Splits.{splits}
 use Rattle.apply.proofs.Blocked.{block-next, block-last}
 use Rattle.apply.proofs.paint_u8.Statement.{statement}
 use Rattle.apply.proofs.paint_u8.Tie as tie

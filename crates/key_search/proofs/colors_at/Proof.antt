@@ -1,23 +1,18 @@
 -- `colors_at` meets its contract. Assumes nothing.
 use borrow.Author.Needs.{needs}
-use mathlib.Core.Bool.{Bool, cond}
-use mathlib.Core.Path.{ap, _∙_}
 use Prim.Native.Nat.{_-_}
 use native.Mathlib.Omega.{arith}
+use mathlib.Core.Path.{refl}
 use lib.ListN.{getD}
-use lib.IntN.{pos}
-use mir.Syntax.{w32}
-use Rattle.categories.proofs.FirstKey.{by-bits}
 use Rattle.lists.proofs.Filling.{Filling, filling-start, filling-turn, filling-end}
-use Rattle.categories.specs.Rule.{eqZ}
 use Rattle.key_search.proofs.colors_at.Statement.{statement}
 use Rattle.key_search.proofs.colors_at.Tie as tie
 
 abbrev Inv-loop : tie.InvT-loop
-Inv-loop narrow colors nodata places key result₀ i₀ result i = Filling 0 (λ k. cond (eqZ (getD narrow (getD places k 0) (pos 0)) (getD key k (pos 0))) (getD colors (getD places k 0) 0) nodata) 16 16 i result
+Inv-loop colors places result₀ i₀ result i = Filling 0 (λ k. getD colors (getD places k 0) 0) 16 16 i result
 
 abbrev μ-loop : tie.MeasureT-loop
-μ-loop narrow colors nodata places key result₀ i₀ result i = 16 - i
+μ-loop colors places result₀ i₀ result i = 16 - i
 
 loop-holds : tie.Need-loop-holds Inv-loop μ-loop
 loop-holds c = filling-start (search needs)
@@ -31,29 +26,14 @@ array-read-place c = search needs
 cast-place : tie.Need-cast-place Inv-loop μ-loop
 cast-place c = search needs
 
-mul-pick : tie.Need-mul-pick Inv-loop μ-loop
-mul-pick c = omega (arith, c .before .before .pre (c .before .loop .i) (c .loop-test .taken))
-
-element-copy-out-pick : tie.Need-element-copy-out-pick Inv-loop μ-loop
-element-copy-out-pick c = omega (arith, c .before .before .pre (c .before .loop .i) (c .loop-test .taken))
-
-mul-pick-2 : tie.Need-mul-pick-2 Inv-loop μ-loop
-mul-pick-2 c = search needs
-
-array-copy-out-pick : tie.Need-array-copy-out-pick Inv-loop μ-loop
-array-copy-out-pick c = search needs
-
-mul-pick-3 : tie.Need-mul-pick-3 Inv-loop μ-loop
-mul-pick-3 c = omega (arith, c .before .before .before .before .pre (c .before .before .before .loop .i) (c .before .before .loop-test .taken))
-
-element-copy-out-pick-2 : tie.Need-element-copy-out-pick-2 Inv-loop μ-loop
-element-copy-out-pick-2 c = omega (arith, c .before .before .before .before .pre (c .before .before .before .loop .i) (c .before .before .loop-test .taken))
-
-pick-requires : tie.Need-pick-requires Inv-loop μ-loop
-pick-requires c κs = search needs
-
 mul-result : tie.Need-mul-result Inv-loop μ-loop
-mul-result c = search needs
+mul-result c = omega (arith, c .before .before .pre (c .before .loop .i) (c .loop-test .taken))
+
+element-copy-out-result : tie.Need-element-copy-out-result Inv-loop μ-loop
+element-copy-out-result c = omega (arith, c .before .before .pre (c .before .loop .i) (c .loop-test .taken))
+
+mul-result-2 : tie.Need-mul-result-2 Inv-loop μ-loop
+mul-result-2 c = search needs
 
 array-write-result : tie.Need-array-write-result Inv-loop μ-loop
 array-write-result c = search needs
@@ -65,14 +45,7 @@ loop-less : tie.Need-loop-less Inv-loop μ-loop
 loop-less c = search needs
 
 loop-again : tie.Need-loop-again Inv-loop μ-loop
-loop-again c =
-    let l = c .before .before .before .before .before in
-    let a = l .before .args in
-    let place = getD (a .t3) (l .loop .i) 0 in
-    filling-turn (l .loop .inv) (omega arith) (omega arith)
-    (c .pick .ensures
-    ∙ ap (λ (b : Bool). cond b (getD (a .colors .now) place 0) (a .nodata))
-    (by-bits w32 (getD (a .narrow .now) place (pos 0)) (getD (a .t4) (l .loop .i) (pos 0)) (record { sfits = c .before .before .before .pick-arg .given }) (record { sfits = c .before .before .pick-arg2 .given })))
+loop-again c = filling-turn (c .before .before .loop .inv) (omega arith) (omega arith) refl
 
 returns : tie.Need-returns Inv-loop μ-loop
 returns c = filling-end (c .before .loop .inv) (omega arith)
@@ -87,14 +60,9 @@ colors-at-spec =
     mul-place
     array-read-place
     cast-place
-    mul-pick
-    element-copy-out-pick
-    mul-pick-2
-    array-copy-out-pick
-    mul-pick-3
-    element-copy-out-pick-2
-    pick-requires
     mul-result
+    element-copy-out-result
+    mul-result-2
     array-write-result
     add-i
     loop-less

@@ -1,11 +1,13 @@
 -- `colors_for_numeric_values` meets its contract. Assumes nothing.
 use borrow.Author.Needs.{needs}
-use mathlib.Core.Path.{sym, subst, _∙_}
+use mathlib.Core.Bool.{cond}
+use mathlib.Core.Path.{sym, subst, ap₂, _∙_}
 use Prim.Native.Nat.{ℕ, _+_, _≤_}
 use lib.ListN.{getD, getD-replicate}
 use lib.Dec.{lit<, lit≤}
-use lib.IntN.{pos}
+use lib.IntN.{ℤ, pos}
 use lib.Ieee.{nan}
+use Rattle.categories.specs.Rule.{eqZ}
 use Rattle.key_search.proofs.Steps.{eight-steps}
 use Rattle.key_search.proofs.Sought.{rising, sample-color}
 use Rattle.key_search.proofs.colors_for_numeric_values.Statement.{statement}
@@ -38,12 +40,18 @@ halved-requires-7 c κs = search needs
 halved-requires-8 : tie.Need-halved-requires-8
 halved-requires-8 c κs = search needs
 
+keys-at-requires : tie.Need-keys-at-requires
+keys-at-requires c κs = search needs
+
 colors-at-requires : tie.Need-colors-at-requires
 colors-at-requires c κs = search needs
 
+known-requires : tie.Need-known-requires
+known-requires c κs = search needs
+
 returns : tie.Need-returns
 returns c keys count n k h =
-    let s8 = c .before in
+    let s8 = c .before .before .before in
     let s7 = s8 .before in
     let s6 = s7 .before in
     let s5 = s6 .before in
@@ -65,7 +73,9 @@ returns c keys count n k h =
     (s6 .halved6 .ensures .0 k h)
     (s7 .halved7 .ensures .0 k h)
     (s8 .halved8 .ensures .0 k h) in
-    c .colors-at .ensures k h ∙ sample-color keys count narrow n (getD (a .value) k nan) (key .ensures k h) place (a .colors .now) (a .nodata)
+    c .known .ensures k h
+    ∙ ap₂ (λ (z : ℤ) (w : ℕ). cond (eqZ z (getD (key .result) k (pos 0))) w (a .nodata)) (c .before .before .keys-at .ensures k h) (c .before .colors-at .ensures k h)
+    ∙ sample-color keys count narrow n (getD (a .value) k nan) (key .ensures k h) place (a .colors .now) (a .nodata)
 
 pub colors-for-numeric-values-spec : {M : Type 1} → statement M
 colors-for-numeric-values-spec =
@@ -80,5 +90,7 @@ colors-for-numeric-values-spec =
     halved-requires-6
     halved-requires-7
     halved-requires-8
+    keys-at-requires
     colors-at-requires
+    known-requires
     returns)

@@ -7,12 +7,12 @@ use Rattle.key_search.proofs.searchable.Tie as tie
 ascending-requires : tie.Need-ascending-requires
 ascending-requires c κs = search needs
 
-in-range-requires : tie.Need-in-range-requires
-in-range-requires c κs = search needs
+ends-near-requires : tie.Need-ends-near-requires
+ends-near-requires c κs = search needs
 
 returns : tie.Need-returns
 unfolding searchable
 returns c = cc
 
 pub searchable-spec : {M : Type 1} → statement M
-searchable-spec = tie.close (tie.spec ascending-requires in-range-requires returns)
+searchable-spec = tie.close (tie.spec ascending-requires ends-near-requires returns)

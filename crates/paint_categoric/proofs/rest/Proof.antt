@@ -4,13 +4,16 @@ use native.Mathlib.Omega.{arith}
 use mathlib.Core.Path.{_∙_}
 use lib.ListN.{take}
 use Rattle.painting.proofs.Masking.{masked-map}
-use Rattle.painting.proofs.Whole.{rest-is}
+use Rattle.painting.proofs.Whole.{rest-is, rest-none}
 use Rattle.paint_categoric.specs.Rules.{tableChunk}
 use Rattle.paint_categoric.proofs.rest.Statement.{statement}
 use Rattle.paint_categoric.proofs.rest.Tie as tie
 
 sub-m : tie.Need-sub-m
 sub-m c = search needs
+
+returns : tie.Need-returns
+returns c = let a = c .before .before .before .args in rest-none _ (a .src .now) (a .out .now) (a .base) (c .if1 .taken) (search needs)
 
 load-requires : tie.Need-load-requires
 load-requires c κs = search needs
@@ -24,14 +27,14 @@ store-requires c κs = search needs
 same-length : tie.Need-same-length
 same-length c = search needs
 
-returns : tie.Need-returns
-returns c =
+returns-2 : tie.Need-returns-2
+returns-2 c =
     let w = c .before .before .before .before .words16 in
     let l = c .before .before .before .before .before .load in
-    let a = c .before .before .before .before .before .before .before .before .args in
+    let a = c .before .before .before .before .before .before .before .before .before .args in
     let plainly = _∙_ {b = tableChunk (a .lookup .now) (a .size) (a .p) (take 16 (l .result))} (w .ensures) (masked-map _ _ _ _) in
     rest-is _ (a .src .now) (a .out .now) (a .base) 16 (w .result) (l .result) (omega arith) (omega arith) (omega arith) (c .before .before .store .ensures) plainly (l .ensures)
 
 pub rest-spec : {M : Type 1} → statement M
 rest-spec =
-    tie.close (tie.spec sub-m load-requires words16-requires store-requires same-length returns)
+    tie.close (tie.spec sub-m returns load-requires words16-requires store-requires same-length returns-2)

@@ -1,12 +1,15 @@
 -- `rest_by_search` meets its contract. Assumes nothing.
 use borrow.Author.Needs.{needs}
 use native.Mathlib.Omega.{arith}
-use Rattle.painting.proofs.Whole.{rest-is}
+use Rattle.painting.proofs.Whole.{rest-is, rest-none}
 use Rattle.paint_categoric.proofs.rest_by_search.Statement.{statement}
 use Rattle.paint_categoric.proofs.rest_by_search.Tie as tie
 
 sub-m : tie.Need-sub-m
 sub-m c = search needs
+
+returns : tie.Need-returns
+returns c keys count n = let a = c .before .before .before .args in rest-none _ (a .src .now) (a .out .now) (a .base) (c .if1 .taken) (search needs)
 
 load-requires : tie.Need-load-requires
 load-requires c κs = search needs
@@ -20,14 +23,14 @@ store-requires c κs = search needs
 same-length : tie.Need-same-length
 same-length c = search needs
 
-returns : tie.Need-returns
-returns c keys count n =
+returns-2 : tie.Need-returns-2
+returns-2 c keys count n =
     let w = c .before .before .before .before .words-by-search in
     let l = c .before .before .before .before .before .load in
-    let a = c .before .before .before .before .before .before .before .before .args in
+    let a = c .before .before .before .before .before .before .before .before .before .args in
     rest-is _ (a .src .now) (a .out .now) (a .base) 16 (w .result) (l .result) (omega arith) (omega arith) (omega arith) (c .before .before .store .ensures) (w .ensures keys count n) (l .ensures)
 
 pub rest-by-search-spec : {M : Type 1} → statement M
 rest-by-search-spec =
     tie.close
-    (tie.spec sub-m load-requires words-by-search-requires store-requires same-length returns)
+    (tie.spec sub-m returns load-requires words-by-search-requires store-requires same-length returns-2)

@@ -1,45 +1,20 @@
--- Plain painting and lane painting as one; it splits at blocks of 256. Assumes nothing.
+-- Painting, plain or in lanes, splits at blocks of 256. Assumes nothing.
 use mathlib.Core.Path.{_≡_, refl, sym, ap, _∙_}
 use mathlib.Core.Bool.{Bool, true, false, cond, _||_, true≢false}
 use mathlib.Core.List.{List, _++_, map-append}
-use Prim.Native.Nat.{ℕ, zero, suc, _+_, _*_, _<_}
+use Prim.Native.Nat.{ℕ, zero, suc, _*_, _<_}
 use native.Mathlib.Omega.{arith}
-use borrow.Author.Tests.{eqb-true, ne-eqb}
+use borrow.Author.Tests.{eqb-true}
 use lib.Dec.{eqb}
 use lib.Ieee.{Float}
 use lib.ListN.{length, length-map}
 use Rattle.painting.specs.Painted.{plainPainted, lanePainted}
-use Rattle.painting.specs.Contracts.{Painter, laneCount}
+use Rattle.painting.specs.Contracts.{Painter}
 use Rattle.painting.proofs.Splitting.{lane-split, length-painted}
 use Rattle.painting.proofs.Blocks.{Splits}
-use Rattle.apply.specs.Painting.{painted, plainOrLanes}
+use Rattle.paint_legend.specs.PlainOrLanes.{painted, plainOrLanes}
+use Rattle.paint_legend.proofs.Lanes.{lanes-count}
 
--- ---- 0 lanes, or a lane count
-or-else : (a b : Bool) → (a || b) ≡ true → a ≡ false → b ≡ true
-or-else true b h e = absurd (true≢false e)
-or-else false b h e = h
-
-pub lanes-count : (lanes : ℕ) → plainOrLanes lanes ≡ true → (lanes ≡ 0 → ⊥) → laneCount lanes ≡ true
-lanes-count lanes h n = or-else (eqb lanes 0) (laneCount lanes) h (ne-eqb lanes 0 n)
-
-pub count-lanes : (lanes : ℕ) → laneCount lanes ≡ true → plainOrLanes lanes ≡ true
-count-lanes lanes h = go (eqb lanes 0) (laneCount lanes) h
-  where
-    go : (a b : Bool) → b ≡ true → (a || b) ≡ true
-    go true b e = refl
-    go false b e = e
-
--- ---- what is painted
-pub painted-plain : (p : Painter) (lanes : ℕ) (xs : List Float) → lanes ≡ 0 → plainPainted (p .plain) xs ≡ painted p lanes xs
-unfolding painted
-painted-plain p lanes xs e = sym (ap (λ (l : ℕ). painted p l xs) e)
-
-pub painted-lanes : (p : Painter) (lanes : ℕ) (xs : List Float) → (lanes ≡ 0 → ⊥) → cond (p .simd) (lanePainted lanes (p .chunk) (p .plain) xs) (plainPainted (p .plain) xs) ≡ painted p lanes xs
-unfolding painted
-painted-lanes p zero xs n = absurd (n refl)
-painted-lanes p (suc l) xs n = refl
-
--- ---- it splits
 module _ (p : Painter) (chunk-long : (c : List Float) → length (p .chunk c) ≡ length c) where
   both-long : (b : Bool) (L : ℕ) (xs : List Float) → length (cond b (lanePainted L (p .chunk) (p .plain) xs) (plainPainted (p .plain) xs)) ≡ length xs
   both-long true L xs = length-painted L (p .chunk) (p .plain) chunk-long xs
