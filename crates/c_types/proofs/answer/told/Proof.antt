@@ -1,4 +1,6 @@
 -- `answer::told` meets its contract. Assumes nothing.
+use mathlib.Core.Path.{_∙_}
+use Rattle.c_types.specs.Answers.{place}
 use borrow.Author.Needs.{needs}
 use Rattle.c_types.proofs.answer.told.Statement.{statement}
 use Rattle.c_types.proofs.answer.told.Tie as tie
@@ -13,7 +15,7 @@ placed-requires : tie.Need-placed-requires
 placed-requires c κs = search needs
 
 returns : tie.Need-returns
-returns c = cc
+returns c = c .placed .ensures ∙ (λ j. place (c .before .before .number .ensures j) (c .before .index .ensures j))
 
 pub told-spec : {M : Type 1} → statement M
 told-spec = tie.close (tie.spec number-requires index-requires placed-requires returns)

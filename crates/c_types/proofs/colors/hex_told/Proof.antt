@@ -1,6 +1,6 @@
 -- `colors::hex_told` meets its contract. Assumes nothing.
+use Rattle.c_types.proofs.Known.{known}
 use Rattle.c_types.specs.Colors.{colorAnswer}
-use mathlib.Core.Path.{ap}
 use borrow.Author.Needs.{needs}
 use Rattle.c_types.proofs.colors.hex_told.Statement.{statement}
 use Rattle.c_types.proofs.colors.hex_told.Tie as tie
@@ -21,10 +21,10 @@ told-requires-2 : tie.Need-told-requires-2
 told-requires-2 c κs = search needs
 
 returns : tie.Need-returns
-returns c = cc (ap colorAnswer (c .before .before .before .found .given .1))
+returns c = known colorAnswer (c .before .before .before .found .given .1) (λ j. record { answer = c .before .told .ensures j; color = c .to-bits .ensures j })
 
 returns-2 : tie.Need-returns-2
-returns-2 c = cc (ap colorAnswer (c .before .before .found2 .given .1))
+returns-2 c = known colorAnswer (c .before .before .found2 .given .1) (λ j. record { answer = c .told2 .ensures j; color = 0 })
 
 pub hex-told-spec : {M : Type 1} → statement M
 hex-told-spec =

@@ -7,7 +7,7 @@ told-requires : tie.Need-told-requires
 told-requires c κs = search needs
 
 returns : tie.Need-returns
-returns c = cc
+returns c = let p = c .before .before .args .chosen in λ j. record { answer = c .told .ensures j; colors = p .colors; count = p .count }
 
 pub palette-told-spec : {M : Type 1} → statement M
 palette-told-spec = tie.close (tie.spec told-requires returns)

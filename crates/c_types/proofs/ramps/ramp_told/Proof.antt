@@ -7,7 +7,7 @@ told-requires : tie.Need-told-requires
 told-requires c κs = search needs
 
 returns : tie.Need-returns
-returns c = cc
+returns c = λ j. record { answer = c .told .ensures j; colors = c .before .before .before .args .made .ramp .cmap }
 
 pub ramp-told-spec : {M : Type 1} → statement M
 ramp-told-spec = tie.close (tie.spec told-requires returns)

@@ -12,7 +12,7 @@ flat-settings-requires c κs = search needs
 
 returns : tie.Need-returns
 unfolding flat
-returns c = cc
+returns c = let l = c .before .before .before .before .before .before .args .made in λ j. record { kind = c .before .kind-number .ensures j; settings = c .flat-settings .ensures j; linear = l .linear; banded = l .banded; categoric = l .categoric }
 
 pub flat-spec : {M : Type 1} → statement M
 flat-spec = tie.close (tie.spec kind-number-requires flat-settings-requires returns)

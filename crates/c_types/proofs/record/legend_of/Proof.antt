@@ -12,7 +12,7 @@ settings-of-requires c κs = search needs
 
 returns : tie.Need-returns
 unfolding legendOf
-returns c = cc
+returns c = let r = c .before .before .before .before .before .before .args .stored in λ j. record { kind = c .before .kind-of .ensures j; linear = r .linear; banded = r .banded; categoric = r .categoric; «mapping_config» = c .settings-of .ensures j }
 
 pub legend-of-spec : {M : Type 1} → statement M
 legend-of-spec = tie.close (tie.spec kind-of-requires settings-of-requires returns)

@@ -1,6 +1,7 @@
 -- `record::made_unless` meets its contract. Assumes nothing.
-use mathlib.Core.Path.{ap}
-use Rattle.c_types.specs.Records.{madeUnless}
+use Rattle.c_types.proofs.Known.{known}
+use mathlib.Core.Path.{ap, _∙_}
+use Rattle.c_types.specs.Records.{flat, madeUnless}
 use borrow.Author.Needs.{needs}
 use Rattle.c_types.proofs.record.made_unless.Statement.{statement}
 use Rattle.c_types.proofs.record.made_unless.Tie as tie
@@ -28,11 +29,11 @@ flat-requires-2 c κs = search needs
 
 returns : tie.Need-returns
 unfolding madeUnless
-returns c = cc (ap (λ f. madeUnless f (c .before .before .before .before .before .before .before .args .made)) (c .before .before .before .before .form .given .1))
+returns c = known (λ f. madeUnless f (c .before .before .before .before .before .before .before .args .made)) (c .before .before .before .before .form .given .1) (λ j. record { answer = c .before .before .placed .ensures j; legend = (c .flat .ensures ∙ ap flat (c .before .default .ensures)) j })
 
 returns-2 : tie.Need-returns-2
 unfolding madeUnless
-returns-2 c = cc (ap (λ f. madeUnless f (c .before .before .before .before .before .args .made)) (c .before .before .enum-told .given .1))
+returns-2 c = known (λ f. madeUnless f (c .before .before .before .before .before .args .made)) (c .before .before .enum-told .given .1) (λ j. record { answer = c .before .told .ensures j; legend = c .flat2 .ensures j })
 
 pub made-unless-spec : {M : Type 1} → statement M
 made-unless-spec =

@@ -21,7 +21,7 @@ flag-of-requires c κs = search needs
 
 returns : tie.Need-returns
 unfolding flatSettings
-returns c = cc
+returns c = λ j. record { «nodata_color» = c .before .before .before .before .before .args .config .«nodata_color»; «low_color» = c .before .before .before .before .unwrap-or .ensures j; «high_color» = c .before .before .before .unwrap-or2 .ensures j; «has_low» = c .before .before .given-flag .ensures j; «has_high» = c .before .given-flag2 .ensures j; «zero_is_nodata» = c .flag-of .ensures j }
 
 pub flat-settings-spec : {M : Type 1} → statement M
 flat-settings-spec =

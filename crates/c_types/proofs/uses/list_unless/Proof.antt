@@ -1,5 +1,6 @@
 -- `uses::list_unless` meets its contract. Assumes nothing.
-use mathlib.Core.Path.{ap}
+use Rattle.c_types.proofs.Known.{known}
+use lib.ListN.{replicate}
 use Rattle.c_types.specs.Uses.{listUnless}
 use borrow.Author.Needs.{needs}
 use Rattle.c_types.proofs.uses.list_unless.Statement.{statement}
@@ -19,11 +20,11 @@ told-requires c κs = search needs
 
 returns : tie.Need-returns
 unfolding listUnless
-returns c = cc (ap (λ f. listUnless f (c .before .before .before .before .before .args .list)) (c .before .before .form .given .1))
+returns c = known (λ f. listUnless f (c .before .before .before .before .before .args .list)) (c .before .before .form .given .1) (λ j. record { answer = c .placed .ensures j; colors = replicate 256 0 })
 
 returns-2 : tie.Need-returns-2
 unfolding listUnless
-returns-2 c = cc (ap (λ f. listUnless f (c .before .before .before .before .args .list)) (c .before .enum-told .given .1))
+returns-2 c = let l = c .before .before .before .before .args .list in known (λ f. listUnless f l) (c .before .enum-told .given .1) (λ j. record { answer = c .told .ensures j; colors = l .colors })
 
 pub list-unless-spec : {M : Type 1} → statement M
 list-unless-spec =

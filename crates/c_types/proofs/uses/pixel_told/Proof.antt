@@ -1,5 +1,5 @@
 -- `uses::pixel_told` meets its contract. Assumes nothing.
-use mathlib.Core.Path.{ap}
+use Rattle.c_types.proofs.Known.{known}
 use Rattle.c_types.specs.Uses.{pixelAnswer}
 use borrow.Author.Needs.{needs}
 use Rattle.c_types.proofs.uses.pixel_told.Statement.{statement}
@@ -18,10 +18,10 @@ told-requires-2 : tie.Need-told-requires-2
 told-requires-2 c κs = search needs
 
 returns : tie.Need-returns
-returns c = cc (ap pixelAnswer (c .before .before .pixel .given .1))
+returns c = known pixelAnswer (c .before .before .pixel .given .1) (λ j. record { answer = c .told .ensures j; color = c .before .before .pixel .given .0 .0 })
 
 returns-2 : tie.Need-returns-2
-returns-2 c = cc (ap pixelAnswer (c .before .before .pixel2 .given .1))
+returns-2 c = known pixelAnswer (c .before .before .pixel2 .given .1) (λ j. record { answer = c .told2 .ensures j; color = 0 })
 
 pub pixel-told-spec : {M : Type 1} → statement M
 pixel-told-spec =

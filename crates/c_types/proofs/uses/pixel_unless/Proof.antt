@@ -1,5 +1,5 @@
 -- `uses::pixel_unless` meets its contract. Assumes nothing.
-use mathlib.Core.Path.{ap}
+use Rattle.c_types.proofs.Known.{known}
 use Rattle.c_types.specs.Uses.{pixelUnless}
 use borrow.Author.Needs.{needs}
 use Rattle.c_types.proofs.uses.pixel_unless.Statement.{statement}
@@ -19,11 +19,11 @@ pixel-told-requires c κs = search needs
 
 returns : tie.Need-returns
 unfolding pixelUnless
-returns c = cc (ap (λ f. pixelUnless f (c .before .before .before .before .args .pixel)) (c .before .before .form .given .1))
+returns c = known (λ f. pixelUnless f (c .before .before .before .before .args .pixel)) (c .before .before .form .given .1) (λ j. record { answer = c .placed .ensures j; color = 0 })
 
 returns-2 : tie.Need-returns-2
 unfolding pixelUnless
-returns-2 c = cc (ap (λ f. pixelUnless f (c .before .before .before .args .pixel)) (c .before .enum-told .given .1))
+returns-2 c = known (λ f. pixelUnless f (c .before .before .before .args .pixel)) (c .before .enum-told .given .1) (c .pixel-told .ensures)
 
 pub pixel-unless-spec : {M : Type 1} → statement M
 pixel-unless-spec =

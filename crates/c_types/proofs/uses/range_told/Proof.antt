@@ -1,5 +1,6 @@
 -- `uses::range_told` meets its contract. Assumes nothing.
-use mathlib.Core.Path.{ap}
+use Rattle.c_types.proofs.Known.{known}
+use Rattle.floats.specs.RampIndex.{nought}
 use Rattle.c_types.specs.Uses.{rangeAnswer}
 use lib.Ieee.{ofBits}
 use borrow.Author.Needs.{needs}
@@ -19,11 +20,11 @@ told-requires-2 : tie.Need-told-requires-2
 told-requires-2 c κs = search needs
 
 returns : tie.Need-returns
-returns c = cc (ap rangeAnswer (c .before .before .range .given .1))
+returns c = known rangeAnswer (c .before .before .range .given .1) (λ j. record { answer = c .told .ensures j; start = c .before .before .range .given .0 .0 .start; end = c .before .before .range .given .0 .0 .end })
 
 returns-2 : tie.Need-returns-2
 unfolding ofBits
-returns-2 c = cc (ap rangeAnswer (c .before .before .range2 .given .1))
+returns-2 c = known rangeAnswer (c .before .before .range2 .given .1) (λ j. record { answer = c .told2 .ensures j; start = nought; end = nought })
 
 pub range-told-spec : {M : Type 1} → statement M
 range-told-spec =

@@ -1,5 +1,6 @@
 -- `uses::range_unless` meets its contract. Assumes nothing.
-use mathlib.Core.Path.{ap}
+use Rattle.c_types.proofs.Known.{known}
+use Rattle.floats.specs.RampIndex.{nought}
 use Rattle.c_types.specs.Uses.{rangeUnless}
 use lib.Ieee.{ofBits}
 use borrow.Author.Needs.{needs}
@@ -20,11 +21,11 @@ range-told-requires c κs = search needs
 
 returns : tie.Need-returns
 unfolding rangeUnless ofBits
-returns c = cc (ap (λ f. rangeUnless f (c .before .before .before .before .args .range)) (c .before .before .form .given .1))
+returns c = known (λ f. rangeUnless f (c .before .before .before .before .args .range)) (c .before .before .form .given .1) (λ j. record { answer = c .placed .ensures j; start = nought; end = nought })
 
 returns-2 : tie.Need-returns-2
 unfolding rangeUnless
-returns-2 c = cc (ap (λ f. rangeUnless f (c .before .before .before .args .range)) (c .before .enum-told .given .1))
+returns-2 c = known (λ f. rangeUnless f (c .before .before .before .args .range)) (c .before .enum-told .given .1) (c .range-told .ensures)
 
 pub range-unless-spec : {M : Type 1} → statement M
 range-unless-spec =
