@@ -9,10 +9,10 @@ use Rattle.cast.specs.declared.Nodata.{Nodata}
 use Rattle.painting.specs.Contracts.{Painter, PlainPainting, LanePainting}
 use Rattle.legend.specs.declared.Legend.{Legend}
 use Rattle.legend.specs.Painters.{painter}
-use Rattle.legend_c.specs.declared.answer.LegendAnswer.{LegendAnswer}
-use Rattle.legend_c.specs.declared.forms.Form.{Form}
-use Rattle.legend_c.specs.declared.forms.Form.the-variants.{Sound, Refused}
-use Rattle.legend_c.specs.Answers.{place, answerOf}
+use Rattle.c_types.specs.declared.answer.LegendAnswer.{LegendAnswer}
+use Rattle.c_types.specs.declared.forms.Form.{Form}
+use Rattle.c_types.specs.declared.forms.Form.the-variants.{Sound, Refused}
+use Rattle.c_types.specs.Answers.{place, answerOf}
 use Rattle.legend_c.specs.Painting as call
 use Rattle.legend_c.specs.Painting.{PlainCall, LaneCall}
 

@@ -6,10 +6,10 @@ use lib.Ieee.{Float}
 use Rattle.refusal.specs.declared.Answer.{Answer}
 use Rattle.refusal.specs.declared.Index.the-variants.{Absent}
 use Rattle.painting.specs.Contracts.{Painter, PlainPainting, LanePainting}
-use Rattle.legend_c.specs.declared.answer.LegendAnswer.{LegendAnswer}
-use Rattle.legend_c.specs.declared.forms.Form.{Form}
-use Rattle.legend_c.specs.declared.forms.Form.the-variants.{Sound, Refused}
-use Rattle.legend_c.specs.Answers.{place, answerOf}
+use Rattle.c_types.specs.declared.answer.LegendAnswer.{LegendAnswer}
+use Rattle.c_types.specs.declared.forms.Form.{Form}
+use Rattle.c_types.specs.declared.forms.Form.the-variants.{Sound, Refused}
+use Rattle.c_types.specs.Answers.{place, answerOf}
 
 pub data PlainCall (form : Form) (p : Painter) (xs : List Float) (out : List ℕ) (result : LegendAnswer) (out' : List ℕ) : Type 0 where
   refused : {n : ℕ} → form ≡ Refused n → result ≡ place n Absent → out' ≡ out → PlainCall form p xs out result out'

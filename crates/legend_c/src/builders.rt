@@ -1,13 +1,13 @@
 // Builders. The flags of the settings are looked at first; else what the kind's builder says (docs/RULES.md).
-use crate::forms;
-use crate::record;
-use crate::record::LegendMade;
-use crate::settings;
-use crate::settings::LegendSettings;
 use banded::Banded;
 use banded::MadeBanded;
 use banded::ValueRanges;
 use bands::LegendBand;
+use c_types::forms;
+use c_types::record;
+use c_types::record::LegendMade;
+use c_types::settings;
+use c_types::settings::LegendSettings;
 use colormap::ProcessedColorMap;
 ghost use mathlib.Core.Path.{_≡_};
 ghost use Rattle.colormap.specs.Positions.{rampColors};
@@ -17,9 +17,9 @@ ghost use Rattle.banded.specs.ManualRanges.{withManualRanges};
 ghost use Rattle.banded.specs.Given.{withBandsGiven};
 ghost use Rattle.catgegoric.specs.Made.{forValues, forValuesFromRamp, forValueRange, forValueRangeFromRamp};
 ghost use Rattle.legend.specs.Building.{madeLinear, madeBanded, madeCategoric};
-ghost use Rattle.legend_c.specs.Settings.{settingsOf};
-ghost use Rattle.legend_c.specs.Forms.{settingsForm};
-ghost use Rattle.legend_c.specs.Records.{madeUnless};
+ghost use Rattle.c_types.specs.Settings.{settingsOf};
+ghost use Rattle.c_types.specs.Forms.{settingsForm};
+ghost use Rattle.c_types.specs.Records.{madeUnless};
 
 #[no_mangle]
 pub extern "C" fn legend_create_linear(

@@ -1,19 +1,19 @@
 // Painting, plainly and in lanes. Where a flag or the kind is refused, no buffer is touched.
-use crate::answer;
-use crate::answer::LegendAnswer;
-use crate::forms;
-use crate::forms::Form;
-use crate::record;
-use crate::record::LegendRecord;
-use crate::samples;
+use c_types::answer;
+use c_types::answer::LegendAnswer;
+use c_types::forms;
+use c_types::forms::Form;
+use c_types::record;
+use c_types::record::LegendRecord;
+use c_types::samples;
 use refusal::Index;
 ghost use mathlib.Core.List.{map};
 ghost use Rattle.cast.specs.Samples.{ofU8, ofI16};
 ghost use Rattle.cast.specs.Nodata.{nodataU8, nodataI16};
 ghost use Rattle.legend.specs.Painters.{painter};
-ghost use Rattle.legend_c.specs.Forms.{useForm};
-ghost use Rattle.legend_c.specs.Records.{legendOf};
-ghost use Rattle.legend_c.specs.Samples.{nodataIf, nodataIfU8, nodataIfI16};
+ghost use Rattle.c_types.specs.Forms.{useForm};
+ghost use Rattle.c_types.specs.Records.{legendOf};
+ghost use Rattle.c_types.specs.Samples.{nodataIf, nodataIfU8, nodataIfI16};
 ghost use Rattle.legend_c.specs.Painting.{PlainCall, LaneCall};
 
 // ---- plain painting

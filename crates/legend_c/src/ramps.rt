@@ -1,25 +1,17 @@
 // Ramps, and looking a fraction up in one.
-use crate::answer;
-use crate::answer::LegendAnswer;
-use colormap::MadeRamp;
+use c_types::ramps;
+use c_types::ramps::LegendRamp;
 ghost use mathlib.Core.Path.{_≡_};
 ghost use Rattle.colormap.specs.Made.{rampOfList, rampOfPreset};
 ghost use Rattle.lookup.specs.Entries.{plainEntry, laneEntry, entryColor};
-ghost use Rattle.legend_c.specs.Ramps.{rampAnswer};
-
-// A ramp's 256 colours, all 0 beside a refusal.
-#[repr(C)]
-pub struct LegendRamp {
-    pub answer: LegendAnswer,
-    pub colors: [u32; 256],
-}
+ghost use Rattle.c_types.specs.Ramps.{rampAnswer};
 
 // A list of colours spread over a ramp.
 #[no_mangle]
 pub extern "C" fn legend_ramp_from_list(colors: &[u32]) -> LegendRamp
     ensures { λ r. ⌜ r ≡ rampAnswer (rampOfList (now (colors .entry))) ⌝ }
 {
-    flat(colormap::create(colors))
+    ramps::ramp_told(colormap::create(colors))
 }
 
 // A palette spread over a ramp.
@@ -27,20 +19,7 @@ pub extern "C" fn legend_ramp_from_list(colors: &[u32]) -> LegendRamp
 pub extern "C" fn legend_ramp_from_palette(number: usize) -> LegendRamp
     ensures { λ r. ⌜ r ≡ rampAnswer (rampOfPreset number) ⌝ }
 {
-    flat(colormap::create_for_preset(number))
-}
-
-// A ramp as C reads it.
-fn flat(made: MadeRamp) -> LegendRamp
-    ensures { λ r. ⌜ r ≡ rampAnswer made ⌝ }
-{
-    let refused = made.answer;
-    let ramp = made.ramp;
-    let colors = ramp.cmap;
-    LegendRamp {
-        answer: answer::told(refused),
-        colors,
-    }
+    ramps::ramp_told(colormap::create_for_preset(number))
 }
 
 // The colour of a fraction. The ramp is lent: by value it would be copied at each call.

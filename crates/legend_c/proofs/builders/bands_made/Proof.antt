@@ -1,4 +1,8 @@
 -- `builders::bands_made` meets its contract. Assumes nothing.
+use mathlib.Core.Path.{ap, _∙_}
+use Rattle.legend.specs.Building.{madeBanded}
+use Rattle.c_types.specs.Records.{madeUnless}
+use Rattle.legend_c.proofs.Unless.{unless}
 use borrow.Author.Needs.{needs}
 use Rattle.legend_c.proofs.builders.bands_made.Statement.{statement}
 use Rattle.legend_c.proofs.builders.bands_made.Tie as tie
@@ -16,7 +20,7 @@ made-unless-requires : tie.Need-made-unless-requires
 made-unless-requires c κs = search needs
 
 returns : tie.Need-returns
-returns c = cc
+returns c = unless madeUnless (c .made-unless .ensures) (c .before .settings-form .ensures) (c .before .before .made-banded .ensures ∙ ap (madeBanded _) (c .before .before .before .settings-of .ensures))
 
 pub bands-made-spec : {M : Type 1} → statement M
 bands-made-spec =

@@ -1,4 +1,8 @@
 -- `builders::legend_create_categoric_for_value_list` meets its contract. Assumes nothing.
+use mathlib.Core.Path.{ap, _∙_}
+use Rattle.legend.specs.Building.{madeCategoric}
+use Rattle.c_types.specs.Records.{madeUnless}
+use Rattle.legend_c.proofs.Unless.{unless}
 use borrow.Author.Needs.{needs}
 use Rattle.legend_c.proofs.builders.legend_create_categoric_for_value_list.Statement.{
   statement,
@@ -18,7 +22,7 @@ made-unless-requires : tie.Need-made-unless-requires
 made-unless-requires c κs = search needs
 
 returns : tie.Need-returns
-returns c = cc
+returns c = unless madeUnless (c .made-unless .ensures) (c .before .settings-form .ensures) (c .before .before .create-categoric-for-value-list .ensures ∙ ap (madeCategoric _) (c .before .before .before .settings-of .ensures))
 
 pub legend-create-categoric-for-value-list-spec : {M : Type 1} → statement M
 legend-create-categoric-for-value-list-spec =

@@ -1,4 +1,8 @@
 -- `builders::legend_create_categoric_for_value_range_from_ramp` meets its contract. Assumes nothing.
+use mathlib.Core.Path.{_∙_}
+use Rattle.legend.specs.Building.{madeCategoric}
+use Rattle.c_types.specs.Records.{madeUnless}
+use Rattle.legend_c.proofs.Unless.{unless}
 use Rattle.catgegoric.specs.Made.{forValueRangeFromRamp}
 use Rattle.catgegoric.proofs.Numbers.{back₂}
 use borrow.Author.Needs.{needs}
@@ -21,7 +25,7 @@ made-unless-requires : tie.Need-made-unless-requires
 made-unless-requires c κs = search needs
 
 returns : tie.Need-returns
-returns c = let s = c .before .before .before .before in cc (back₂ (λ a b. forValueRangeFromRamp a b (s .args .ramp .now)) (s .args .start) (s .args .end) (s .fits .start .sfits) (s .fits .end .sfits))
+returns c = let s = c .before .before .before .before in unless madeUnless (c .made-unless .ensures) (c .before .settings-form .ensures) (c .before .before .create-categoric-for-value-range-from-ramp .ensures ∙ (λ j. madeCategoric (back₂ (λ a b. forValueRangeFromRamp a b (s .args .ramp .now)) (s .args .start) (s .args .end) (s .fits .start .sfits) (s .fits .end .sfits) j) (c .before .before .before .settings-of .ensures j)))
 
 pub legend-create-categoric-for-value-range-from-ramp-spec : {M : Type 1} → statement M
 legend-create-categoric-for-value-range-from-ramp-spec =

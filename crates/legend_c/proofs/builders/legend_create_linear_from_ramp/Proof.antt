@@ -1,4 +1,8 @@
 -- `builders::legend_create_linear_from_ramp` meets its contract. Assumes nothing.
+use mathlib.Core.Path.{ap, _∙_}
+use Rattle.legend.specs.Building.{madeLinear}
+use Rattle.c_types.specs.Records.{madeUnless}
+use Rattle.legend_c.proofs.Unless.{unless}
 use borrow.Author.Needs.{needs}
 use Rattle.legend_c.proofs.builders.legend_create_linear_from_ramp.Statement.{statement}
 use Rattle.legend_c.proofs.builders.legend_create_linear_from_ramp.Tie as tie
@@ -16,7 +20,7 @@ made-unless-requires : tie.Need-made-unless-requires
 made-unless-requires c κs = search needs
 
 returns : tie.Need-returns
-returns c = cc
+returns c = unless madeUnless (c .made-unless .ensures) (c .before .settings-form .ensures) (c .before .before .create-linear-from-ramp .ensures ∙ ap (madeLinear _) (c .before .before .before .settings-of .ensures))
 
 pub legend-create-linear-from-ramp-spec : {M : Type 1} → statement M
 legend-create-linear-from-ramp-spec =

@@ -4,7 +4,7 @@ use Rattle.cast.specs.Nodata.{nodataI16}
 use Rattle.legend_c.proofs.Calling.{plain-refused, plain-painted}
 use mir.Syntax.{w16}
 use mir.Facts.{toZ-ofZ}
-use Rattle.legend_c.specs.Samples.{nodataIfI16}
+use Rattle.c_types.specs.Samples.{nodataIfI16}
 use borrow.Author.Needs.{needs}
 use Rattle.legend_c.proofs.painters.legend_paint_i16.Statement.{statement}
 use Rattle.legend_c.proofs.painters.legend_paint_i16.Tie as tie

@@ -1,5 +1,5 @@
 -- `ramps::legend_ramp_from_palette` meets its contract. Assumes nothing.
-use Rattle.legend_c.specs.Ramps.{rampAnswer}
+use Rattle.c_types.specs.Ramps.{rampAnswer}
 use mathlib.Core.Path.{ap, _∙_}
 use borrow.Author.Needs.{needs}
 use Rattle.legend_c.proofs.ramps.legend_ramp_from_palette.Statement.{statement}
@@ -8,12 +8,12 @@ use Rattle.legend_c.proofs.ramps.legend_ramp_from_palette.Tie as tie
 create-for-preset-requires : tie.Need-create-for-preset-requires
 create-for-preset-requires c κs = search needs
 
-flat-requires : tie.Need-flat-requires
-flat-requires c κs = search needs
+ramp-told-requires : tie.Need-ramp-told-requires
+ramp-told-requires c κs = search needs
 
 returns : tie.Need-returns
-returns c = c .flat .ensures ∙ ap rampAnswer (c .before .create-for-preset .ensures)
+returns c = c .ramp-told .ensures ∙ ap rampAnswer (c .before .create-for-preset .ensures)
 
 pub legend-ramp-from-palette-spec : {M : Type 1} → statement M
 legend-ramp-from-palette-spec =
-    tie.close (tie.spec create-for-preset-requires flat-requires returns)
+    tie.close (tie.spec create-for-preset-requires ramp-told-requires returns)

@@ -1,10 +1,13 @@
 -- `uses::legend_color_for_i16` meets its contract. Assumes nothing.
+use Rattle.apply.specs.Values.{colorForValue}
+use Rattle.c_types.specs.Uses.{pixelUnless}
+use Rattle.legend_c.proofs.Unless.{unless}
 use mathlib.Core.Path.{ap, _∙_}
 use mir.Syntax.{w16}
 use mir.Facts.{toZ-ofZ}
 use Rattle.cast.specs.Samples.{ofI16}
 use Rattle.cast.specs.Nodata.{nodataI16}
-use Rattle.legend_c.specs.Samples.{nodataIfI16}
+use Rattle.c_types.specs.Samples.{nodataIfI16}
 use borrow.Author.Needs.{needs}
 use Rattle.legend_c.proofs.uses.legend_color_for_i16.Statement.{statement}
 use Rattle.legend_c.proofs.uses.legend_color_for_i16.Tie as tie
@@ -25,7 +28,7 @@ pixel-unless-requires : tie.Need-pixel-unless-requires
 pixel-unless-requires c κs = search needs
 
 returns : tie.Need-returns
-returns c = cc (ap nodataI16 (c .before .before .before .nodata-if-i16 .ensures ∙ ap (nodataIfI16 (c .before .before .before .before .before .args .nodata-given)) (toZ-ofZ {w = w16} (c .before .before .before .before .before .fits .nodata))), ap ofI16 (toZ-ofZ {w = w16} (c .before .before .before .before .before .fits .value)))
+returns c = let s = c .before .before .before .before .before in unless pixelUnless (c .pixel-unless .ensures) (c .before .use-form .ensures) (c .before .before .color-for-value-i16 .ensures ∙ (λ j. colorForValue (c .before .before .before .before .legend-of .ensures j) (nodataI16 ((c .before .before .before .nodata-if-i16 .ensures ∙ ap (nodataIfI16 (s .args .nodata-given)) (toZ-ofZ {w = w16} (s .fits .nodata))) j)) (ofI16 (toZ-ofZ {w = w16} (s .fits .value) j))))
 
 pub legend-color-for-i16-spec : {M : Type 1} → statement M
 legend-color-for-i16-spec =

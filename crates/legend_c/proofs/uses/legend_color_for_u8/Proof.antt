@@ -1,5 +1,9 @@
 -- `uses::legend_color_for_u8` meets its contract. Assumes nothing.
-use mathlib.Core.Path.{ap}
+use mathlib.Core.Path.{_∙_}
+use Rattle.cast.specs.Samples.{ofU8}
+use Rattle.apply.specs.Values.{colorForValue}
+use Rattle.c_types.specs.Uses.{pixelUnless}
+use Rattle.legend_c.proofs.Unless.{unless}
 use Rattle.cast.specs.Nodata.{nodataU8}
 use borrow.Author.Needs.{needs}
 use Rattle.legend_c.proofs.uses.legend_color_for_u8.Statement.{statement}
@@ -21,7 +25,7 @@ pixel-unless-requires : tie.Need-pixel-unless-requires
 pixel-unless-requires c κs = search needs
 
 returns : tie.Need-returns
-returns c = cc (ap nodataU8 (c .before .before .before .nodata-if-u8 .ensures))
+returns c = unless pixelUnless (c .pixel-unless .ensures) (c .before .use-form .ensures) (c .before .before .color-for-value-u8 .ensures ∙ (λ j. colorForValue (c .before .before .before .before .legend-of .ensures j) (nodataU8 (c .before .before .before .nodata-if-u8 .ensures j)) (ofU8 (c .before .before .before .before .before .args .value))))
 
 pub legend-color-for-u8-spec : {M : Type 1} → statement M
 legend-color-for-u8-spec =

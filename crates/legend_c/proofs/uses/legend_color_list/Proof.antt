@@ -1,4 +1,8 @@
 -- `uses::legend_color_list` meets its contract. Assumes nothing.
+use mathlib.Core.Path.{ap, _∙_}
+use Rattle.apply.specs.ColorLists.{colorList}
+use Rattle.c_types.specs.Uses.{listUnless}
+use Rattle.legend_c.proofs.Unless.{unless}
 use borrow.Author.Needs.{needs}
 use Rattle.legend_c.proofs.uses.legend_color_list.Statement.{statement}
 use Rattle.legend_c.proofs.uses.legend_color_list.Tie as tie
@@ -16,7 +20,7 @@ list-unless-requires : tie.Need-list-unless-requires
 list-unless-requires c κs = search needs
 
 returns : tie.Need-returns
-returns c = cc
+returns c = unless listUnless (c .list-unless .ensures) (c .before .record-form .ensures) (c .before .before .color-list .ensures ∙ ap colorList (c .before .before .before .legend-of .ensures))
 
 pub legend-color-list-spec : {M : Type 1} → statement M
 legend-color-list-spec =

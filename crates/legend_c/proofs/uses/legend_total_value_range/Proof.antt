@@ -1,4 +1,8 @@
 -- `uses::legend_total_value_range` meets its contract. Assumes nothing.
+use mathlib.Core.Path.{ap, _∙_}
+use Rattle.legend.specs.ValueRanges.{totalValueRange}
+use Rattle.c_types.specs.Uses.{rangeUnless}
+use Rattle.legend_c.proofs.Unless.{unless}
 use borrow.Author.Needs.{needs}
 use Rattle.legend_c.proofs.uses.legend_total_value_range.Statement.{statement}
 use Rattle.legend_c.proofs.uses.legend_total_value_range.Tie as tie
@@ -16,7 +20,7 @@ range-unless-requires : tie.Need-range-unless-requires
 range-unless-requires c κs = search needs
 
 returns : tie.Need-returns
-returns c = cc
+returns c = unless rangeUnless (c .range-unless .ensures) (c .before .record-form .ensures) (c .before .before .total-value-range .ensures ∙ ap totalValueRange (c .before .before .before .legend-of .ensures))
 
 pub legend-total-value-range-spec : {M : Type 1} → statement M
 legend-total-value-range-spec =

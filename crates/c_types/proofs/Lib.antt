@@ -1,0 +1,3 @@
+-- The laws that other crates cite, and what the proofs of this crate share.
+pub mod ThereAndBack
+mod Known

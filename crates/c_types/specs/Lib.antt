@@ -1,0 +1,9 @@
+pub mod Answers
+pub mod Colors
+pub mod Forms
+pub mod Keys
+pub mod Ramps
+pub mod Records
+pub mod Samples
+pub mod Settings
+pub mod Uses
