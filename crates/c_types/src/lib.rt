@@ -1,4 +1,4 @@
-// The `repr(C)` structs of include/legend.h, and the turns between them and the library's own types.
+// The `repr(C)` structs that C alone needs (include/legend.h), and the turns between them and the library's own types.
 pub mod answer;
 pub mod colors;
 pub mod forms;

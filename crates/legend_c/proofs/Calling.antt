@@ -1,6 +1,6 @@
 -- A painting as C calls it, from what the code found: its arguments refused, or a painting told. Assumes nothing.
 use Prim.Native.Nat.{ℕ}
-use mathlib.Core.Path.{_≡_, refl, subst}
+use mathlib.Core.Path.{_≡_, refl}
 use mathlib.Core.List.{List}
 use lib.Ieee.{Float}
 use Rattle.refusal.specs.declared.Answer.{Answer}
