@@ -10,7 +10,9 @@ use types.Run.{OneOf}
 use lib.Dec.{eqb}
 use lib.ListN.{length, getD}
 use Rattle.refusal.specs.declared.Refusal.the-variants.{EmptyText, NotHexColor}
+use Rattle.color.specs.declared.Hex.{Hex}
 use Rattle.color.specs.declared.Hex.the-variants.{Value}
+use Rattle.color.specs.declared.HexColor.{HexColor}
 use Rattle.color.specs.declared.HexColor.the-variants.{Refused}
 use Rattle.color.specs.Hex.{hexForm, pairAt, alphaOf, ofPairs, hexColor}
 use Rattle.color.proofs.Digits.{both}
@@ -72,3 +74,7 @@ module _ (text : List ℕ) where
   of-formed e =
       let some : 7 ≤ length text = three-pairs e
       in rw (ne-eqb (length text) 0 (λ z. omega arith), e)
+
+  -- the pairs as the code read them
+  pub of-read : {r g b a : Hex} {c : HexColor} → hexForm text ≡ true → c ≡ ofPairs r g b a → r ≡ pairAt text 0 → g ≡ pairAt text 1 → b ≡ pairAt text 2 → a ≡ alphaOf text → c ≡ hexColor text
+  of-read f e er eg eb ea = e ∙ (λ j. ofPairs (er j) (eg j) (eb j) (ea j)) ∙ sym (of-formed f)

@@ -1,10 +1,11 @@
 -- `spread_at` meets its contract. Assumes nothing.
 use Rattle.color.specs.Word.{wordOf}
 use borrow.Author.Tests.{eq-eqb, ne-eqb}
-use Rattle.colormap.specs.Spread.{spreadAt}
+use Rattle.colormap.specs.Spread.{blend, spreadAt}
 use Rattle.colormap.proofs.Places.{product-fits, place-lt, next-lt}
 use native.Mathlib.Omega.{arith}
 use mathlib.Core.Path.{ap, _∙_}
+use Prim.Native.Nat.{_*_, _-_, _%_}
 use lib.ListN.{length}
 use borrow.Author.Needs.{needs}
 use Rattle.colormap.proofs.spread_at.Statement.{statement}
@@ -58,7 +59,7 @@ to-bits-requires c κs = search needs
 
 returns-2 : tie.Need-returns-2
 unfolding spreadAt
-returns-2 c = simp (ne-eqb _ _ (c .before .before .before .before .before .before .if1 .left)) (c .to-bits .ensures ∙ ap wordOf (c .before .blended .ensures ∙ cc (c .before .before .from-bits2 .ensures, c .before .before .before .before .from-bits .ensures)))
+returns-2 c = let a = c .before .before .before .before .before .before .before .before .args in simp (ne-eqb _ _ (c .before .before .before .before .before .before .if1 .left)) (c .to-bits .ensures ∙ ap wordOf (c .before .blended .ensures ∙ (λ j. blend (a .i * (length (a .colors .now) - 1) % 255) (c .before .before .before .before .from-bits .ensures j) (c .before .before .from-bits2 .ensures j))))
 
 pub spread-at-spec : {M : Type 1} → statement M
 spread-at-spec =

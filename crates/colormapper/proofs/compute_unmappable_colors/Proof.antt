@@ -10,7 +10,7 @@ unwrap-or-requires-2 : tie.Need-unwrap-or-requires-2
 unwrap-or-requires-2 c κs = search needs
 
 returns : tie.Need-returns
-returns c = cc (c .unwrap-or2 .ensures, c .before .unwrap-or .ensures)
+returns c = λ j. record { nodata = c .before .before .args .config .«nodata_color»; low = c .before .unwrap-or .ensures j; high = c .unwrap-or2 .ensures j }
 
 pub compute-unmappable-colors-spec : {M : Type 1} → statement M
 compute-unmappable-colors-spec =

@@ -10,7 +10,7 @@ zero-or-nan-requires : tie.Need-zero-or-nan-requires
 zero-or-nan-requires c κs = search needs
 
 returns : tie.Need-returns
-returns c = cc (c .zero-or-nan .ensures, c .before .value-or-nan .ensures)
+returns c = λ j. record { nodata = c .before .value-or-nan .ensures j; zero = c .zero-or-nan .ensures j }
 
 pub exclusions-of-spec : {M : Type 1} → statement M
 exclusions-of-spec = tie.close (tie.spec value-or-nan-requires zero-or-nan-requires returns)

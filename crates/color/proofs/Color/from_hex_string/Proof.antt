@@ -3,7 +3,7 @@ use mathlib.Core.Path.{sym, _∙_}
 use native.Mathlib.Omega.{arith}
 use borrow.Author.Tests.{not-true}
 use borrow.Author.Needs.{needs}
-use Rattle.color.proofs.Form.{formed, three-pairs, four-pairs, of-empty, of-formless, of-formed, short-alpha, long-alpha}
+use Rattle.color.proofs.Form.{formed, three-pairs, four-pairs, of-empty, of-formless, of-read, short-alpha, long-alpha}
 use Rattle.color.proofs.Color.from_hex_string.Statement.{statement}
 use Rattle.color.proofs.Color.from_hex_string.Tie as tie
 
@@ -38,7 +38,7 @@ of-pairs-requires c κs = search needs
 returns-3 : tie.Need-returns-3
 returns-3 c =
     let p = c .before .before .before .before .before
-    in cc (of-formed _ (formed _ (p .before .hex-form .ensures) (p .if2 .left)), short-alpha _ (c .before .if3 .taken))
+    in of-read _ (formed _ (p .before .hex-form .ensures) (p .if2 .left)) (c .of-pairs .ensures) (c .before .before .before .before .pair-at .ensures) (c .before .before .before .pair-at2 .ensures) (c .before .before .pair-at3 .ensures) (sym (short-alpha _ (c .before .if3 .taken)))
 
 pair-at-requires-4 : tie.Need-pair-at-requires-4
 pair-at-requires-4 c κs =
@@ -51,7 +51,7 @@ of-pairs-requires-2 c κs = search needs
 returns-4 : tie.Need-returns-4
 returns-4 c =
     let p = c .before .before .before .before .before .before
-    in cc (of-formed _ (formed _ (p .before .hex-form .ensures) (p .if2 .left)), long-alpha _ (c .before .before .if3 .left))
+    in of-read _ (formed _ (p .before .hex-form .ensures) (p .if2 .left)) (c .of-pairs2 .ensures) (c .before .before .before .before .before .pair-at .ensures) (c .before .before .before .before .pair-at2 .ensures) (c .before .before .before .pair-at3 .ensures) (c .before .pair-at4 .ensures ∙ sym (long-alpha _ (c .before .before .if3 .left)))
 
 pub from-hex-string-spec : {M : Type 1} → statement M
 from-hex-string-spec =
