@@ -7,7 +7,7 @@ use lib.ListN.{replicate}
 use Rattle.lists.specs.Tabulate.{tabulate}
 use Rattle.refusal.specs.Outcome.{ifDone}
 use Rattle.cast.specs.declared.Nodata.the-variants.{Absent}
-use Rattle.banded.specs.declared.ValueRange.{ValueRange}
+use Rattle.band_lists.specs.declared.ValueRange.{ValueRange}
 use Rattle.legend.specs.declared.Legend.{Legend}
 use Rattle.legend.specs.Painters.{painter}
 use Rattle.legend.specs.ValueRanges.{rangeIn, rangeRefusal}

@@ -1,6 +1,6 @@
 // What a legend is used for: painting rasters plainly and in lanes, the colour of a sample, and the list of its colours
 // (docs/RULES.md, "Painting"). Samples are f32, u8 or i16; u8 and i16 are turned into f32 by blocks of 256.
-use banded::ValueRange;
+use band_lists::ValueRange;
 use cast::Nodata;
 use cast::NodataI16;
 use cast::NodataU8;

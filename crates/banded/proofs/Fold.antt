@@ -49,7 +49,7 @@ use denote.Triple.Walked.{says, needs, Stays, stay-none-slice, stay-none, walkOf
 use denote.Exit.{yes, Last, left}
 use Rattle.banded.specs.Given.{folded}
 use Rattle.bands.specs.declared.LegendBand.{LegendBand}
-use Rattle.banded.proofs.Past.{noBand}
+use Rattle.band_columns.proofs.Past.{noBand}
 use Rattle.banded.proofs.Rows.{Band, band-vals, band-tells, band-copy, band-makes, band-typed, offset-fits, tests}
 use denote.Struct.Laws as LL
 use Rattle.bands.proofs.LegendBand.Laws as T′

@@ -14,8 +14,9 @@ use Rattle.refusal.specs.declared.Refusal.the-variants.{TooManyBands}
 use Rattle.refusal.specs.declared.Answer.the-variants.{Done}
 use Rattle.refusal.specs.Outcome.{refuseIf}
 use Rattle.bands.specs.declared.LegendBand.{LegendBand}
+use Rattle.band_lists.specs.Places.{blankBand}
 use Rattle.banded.specs.declared.Banded.{Banded}
-use Rattle.banded.specs.Record.{blankBand, bandedOf, beside}
+use Rattle.banded.specs.Record.{bandedOf, beside}
 use Rattle.banded.specs.Given.{withBand, folded, givenRefusal, withBandsGiven}
 
 one-more : (xs : List LegendBand) (b : LegendBand) → length xs < 64 → withBand (bandedOf xs) b ≡ bandedOf (xs ++ (b ∷ []))

@@ -1,9 +1,6 @@
-pub mod Past
 pub mod Records
 pub mod Equal
 pub mod Manual
-pub mod Unpacking
-pub mod Outer
 pub mod Rows
 pub mod Calls
 pub mod Fold

@@ -1,19 +1,18 @@
--- The record of a list of bands: which bands it counts, a record that a loop stored, and a record beside its answer. Assumes nothing.
-use mathlib.Core.Path.{_≡_, refl, sym, subst, ap₂, _∙_}
+-- The record of a list of bands: which bands it counts, a record of bands in their places, and a record beside its answer. Assumes nothing.
+use mathlib.Core.Path.{_≡_, refl, sym, ap₂, _∙_}
 use mathlib.Core.List.{List, []}
 use Prim.Native.Nat.{ℕ, _≤_}
 use lib.ListN.{length}
-use Rattle.lists.specs.Tabulate.{tabulate}
-use Rattle.lists.proofs.Tabulated.{length-tabulate}
-use Rattle.lists.proofs.Padding.{length-padded, take-padded, padded-none, Storing, storing-start, storing-end}
+use Rattle.lists.proofs.Padding.{length-padded, take-padded}
 use Rattle.refusal.specs.declared.Refusal.{Refusal}
 use Rattle.refusal.specs.declared.Answer.{Answer}
 use Rattle.refusal.specs.declared.Answer.the-variants.{Done, Refused}
 use Rattle.refusal.proofs.Outcomes.{when-done, when-refused}
 use Rattle.bands.specs.declared.LegendBand.{LegendBand}
+use Rattle.band_lists.specs.Places.{blankBand, placesOf}
 use Rattle.banded.specs.declared.Banded.{Banded}
 use Rattle.banded.specs.declared.MadeBanded.{MadeBanded}
-use Rattle.banded.specs.Record.{blankBand, bandedOf, counted, beside}
+use Rattle.banded.specs.Record.{bandedOf, counted, beside}
 
 -- a built record counts the bands that it was built of
 pub counted-of : (bands : List LegendBand) → counted (bandedOf bands) ≡ bands
@@ -28,14 +27,10 @@ pub places-of : (bands : List LegendBand) → length bands ≤ 64 → length (ba
 unfolding bandedOf
 places-of bands h = length-padded blankBand 64 bands h
 
--- blank bands, and what a loop stored over them
-pub no-bands-stored : {n : ℕ} {f : ℕ → LegendBand} {r : List LegendBand} → r ≡ bandedOf [] .bands → Storing blankBand f 64 n 0 r
+-- bands in their places, and how many they are
+pub record-of : (bands : List LegendBand) {r : List LegendBand} {n : ℕ} → length bands ≡ n → r ≡ placesOf bands → _≡_ {A = Banded} (record { bands = r; count = n }) (bandedOf bands)
 unfolding bandedOf
-no-bands-stored {n} {f} e = subst (Storing blankBand f 64 n 0) (sym (e ∙ padded-none blankBand 64)) storing-start
-
-pub stored-record : {n i : ℕ} {f : ℕ → LegendBand} {r : List LegendBand} → Storing blankBand f 64 n i r → n ≤ i → _≡_ {A = Banded} (record { bands = r; count = n }) (bandedOf (tabulate n f))
-unfolding bandedOf
-stored-record {n} {i} {f} {r} s h = ap₂ (λ x y. record { bands = x; count = y }) (storing-end s h) (sym (length-tabulate n f))
+record-of bands e h = ap₂ (λ x y. record { bands = x; count = y }) h (sym e)
 
 -- what a builder answers beside a record
 module _ {a b : Answer} {r : Banded} (banded : Banded) (e : b ≡ a) where

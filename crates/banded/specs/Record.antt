@@ -3,23 +3,18 @@ use Prim.Native.Nat.{ℕ}
 use mathlib.Core.List.{List, []}
 use lib.Dec.{ltb}
 use lib.ListN.{length, take}
-use Rattle.floats.specs.RampIndex.{nought}
-use Rattle.lists.specs.Padded.{padded}
 use Rattle.refusal.specs.declared.Refusal.the-variants.{CountAboveCapacity}
 use Rattle.refusal.specs.declared.Answer.{Answer}
 use Rattle.refusal.specs.declared.Answer.the-variants.{Done}
 use Rattle.refusal.specs.Outcome.{refuseIf, ifDone}
 use Rattle.bands.specs.declared.LegendBand.{LegendBand}
+use Rattle.band_lists.specs.Places.{placesOf}
 use Rattle.banded.specs.declared.Banded.{Banded}
 use Rattle.banded.specs.declared.MadeBanded.{MadeBanded}
 
--- what stands in the places that no band uses
-abbrev pub blankBand : LegendBand
-blankBand = record { start = nought; end = nought; color = 0 }
-
 -- the record of at most 64 bands: the bands in their order, then blank ones
 unfoldable pub bandedOf : List LegendBand → Banded
-bandedOf bands = record { bands = padded blankBand 64 bands; count = length bands }
+bandedOf bands = record { bands = placesOf bands; count = length bands }
 
 -- the bands that a record counts: all 64 where its count is above that
 abbrev pub counted : Banded → List LegendBand

@@ -5,9 +5,11 @@ use Rattle.lists.specs.Tabulate.{tabulate}
 use Rattle.color.specs.Hex.{hexColor, hexForm, hexDigit, twoDigits, hexPair, pairAt, alphaOf, ofPairs}
 use Rattle.colormap.specs.Made.{listRefusal}
 use Rattle.linear.specs.Made as linear
+use Rattle.band_lists.specs.EqualBands.{equalRefusal}
+use Rattle.band_lists.specs.ManualRanges.{firstEmpty, manualRefusal}
 use Rattle.banded.specs.Record.{bandedOf, beside, bandedRefusal}
-use Rattle.banded.specs.EqualBands.{equalRefusal, withEqualBands}
-use Rattle.banded.specs.ManualRanges.{firstEmpty, manualRefusal, withManualRanges}
+use Rattle.banded.specs.EqualBands.{withEqualBands}
+use Rattle.banded.specs.ManualRanges.{withManualRanges}
 use Rattle.catgegoric.specs.Range.{tooWide, rangeKeys}
 use Rattle.catgegoric.specs.Keys.{outsideFrom}
 use Rattle.catgegoric.specs.Made.{madeUnless, manyRefusal, valuesRefusal, wideRefusal, rangeRefusal, categoricRefusal}

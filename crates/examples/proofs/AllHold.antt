@@ -15,8 +15,9 @@ use Rattle.linear.specs.Rule as linear
 use Rattle.bands.specs.Band.{lastOf}
 use Rattle.bands.specs.PlainRule.{firstBand, edges, plainRule, bandColor, ruleColor}
 use Rattle.bands.specs.LaneRule.{edged, scanned, laneColors}
+use Rattle.band_lists.specs.EqualBands.{bandStep, bandStart, equalBands, equalRefusal}
 use Rattle.banded.specs.Record.{bandedOf, beside}
-use Rattle.banded.specs.EqualBands.{bandStep, bandStart, equalBands, equalRefusal, withEqualBands}
+use Rattle.banded.specs.EqualBands.{withEqualBands}
 use Rattle.categories.specs.Rule as rule
 use Rattle.catgegoric.specs.Categories.{inserted, firstOf}
 use Rattle.catgegoric.specs.Table.{foremost, tabled, tableSize, written, table}

@@ -22,7 +22,7 @@ use Rattle.linear.specs.Rule as linear
 use Rattle.bands.specs.declared.LegendBand.{LegendBand}
 use Rattle.bands.specs.PlainRule as bands
 use Rattle.bands.specs.LaneRule.{laneColors}
-use Rattle.banded.specs.Record.{blankBand}
+use Rattle.band_lists.specs.Places.{blankBand}
 use Rattle.banded.specs.EqualBands.{withEqualBands}
 use Rattle.categories.specs.Rule as categories
 use Rattle.catgegoric.specs.declared.CategoricNumeric.{CategoricNumeric}

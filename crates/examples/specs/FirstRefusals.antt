@@ -15,7 +15,7 @@ use Rattle.color.specs.declared.HexColor.the-variants.{Made, Refused}
 use Rattle.color.specs.Hex.{hexColor}
 use Rattle.colormapper.specs.Settings.{noSettings}
 use Rattle.linear.specs.Made.{linearOfList}
-use Rattle.banded.specs.declared.ValueRange.{ValueRange}
+use Rattle.band_lists.specs.declared.ValueRange.{ValueRange}
 use Rattle.banded.specs.Record.{bandedRefusal}
 use Rattle.banded.specs.EqualBands.{withEqualBands}
 use Rattle.banded.specs.ManualRanges.{withManualRanges}

@@ -21,7 +21,7 @@ use Rattle.refusal.specs.Outcome.{firstOf}
 use Rattle.refusal.proofs.Outcomes.{passed, not-done}
 use Rattle.bands.specs.declared.LegendBand.{LegendBand}
 use Rattle.bands.specs.Band.{lastOf}
-use Rattle.banded.proofs.Outer.{last-of}
+use Rattle.band_columns.proofs.Outer.{last-of}
 use Rattle.catgegoric.specs.Table.{foremost, smallest, largest}
 use Rattle.catgegoric.specs.Keys.{outside, outsideFrom, keysRefusal}
 use Rattle.catgegoric.proofs.Numbers.{back}

@@ -9,7 +9,7 @@ use Rattle.refusal.specs.declared.Answer.the-variants as answer
 use Rattle.refusal.specs.Outcome.{firstOf}
 use Rattle.bands.specs.declared.LegendBand.{LegendBand}
 use Rattle.bands.specs.Band.{lastOf}
-use Rattle.banded.specs.declared.ValueRange.{ValueRange}
+use Rattle.band_lists.specs.declared.ValueRange.{ValueRange}
 use Rattle.banded.specs.Record.{counted}
 use Rattle.catgegoric.specs.Table.{smallest, largest}
 use Rattle.catgegoric.specs.Keys.{keysRefusal}

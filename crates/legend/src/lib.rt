@@ -1,8 +1,8 @@
 // Legends of any kind: the record, its builders, and the whole range of its values (docs/RULES.md).
+use band_lists::ValueRange;
+use band_lists::ValueRanges;
 use banded::Banded;
 use banded::MadeBanded;
-use banded::ValueRange;
-use banded::ValueRanges;
 use bands::LegendBand;
 use catgegoric::CategoricNumeric;
 use catgegoric::MadeCategoric;

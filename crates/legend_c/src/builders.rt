@@ -1,7 +1,7 @@
 // Builders. The flags of the settings are looked at first; else what the kind's builder says (docs/RULES.md).
+use band_lists::ValueRanges;
 use banded::Banded;
 use banded::MadeBanded;
-use banded::ValueRanges;
 use bands::LegendBand;
 use c_types::forms;
 use c_types::record;

@@ -22,7 +22,7 @@ use Rattle.bands.specs.Packed.{packed}
 use Rattle.banded.specs.declared.Banded.{Banded}
 use Rattle.banded.specs.Record.{counted}
 use Rattle.banded.specs.Unmappable.{bandedUnmappable}
-use Rattle.banded.proofs.Unpacking.{repacked}
+use Rattle.band_columns.proofs.Unpacking.{repacked}
 use Rattle.categories.specs.Rule as categories
 use Rattle.categories.proofs.Rules.{with-table, without-table}
 use Rattle.catgegoric.specs.declared.CategoricNumeric.{CategoricNumeric}

@@ -72,9 +72,9 @@ fn paint_banded(banded: Banded, config: MappingConfig, nodata: Nodata, src: &[f3
 {
     let p = banded_paint(banded, config, nodata);
     let bands = banded.bands;
-    let starts = banded::starts_of(bands);
-    let ends = banded::ends_of(bands);
-    let colors = banded::colors_of(bands);
+    let starts = band_columns::starts_of(bands);
+    let ends = band_columns::ends_of(bands);
+    let colors = band_columns::colors_of(bands);
     paint_banded::paint(&starts, &ends, &colors, p, src, out);
 }
 
@@ -142,9 +142,9 @@ fn paint_banded_simd(
 {
     let p = banded_paint(banded, config, nodata);
     let bands = banded.bands;
-    let starts = banded::starts_of(bands);
-    let ends = banded::ends_of(bands);
-    let colors = banded::colors_of(bands);
+    let starts = band_columns::starts_of(bands);
+    let ends = band_columns::ends_of(bands);
+    let colors = band_columns::colors_of(bands);
     paint_banded::paint_simd(&starts, &ends, &colors, p, l, src, out);
 }
 

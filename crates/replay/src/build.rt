@@ -1,9 +1,9 @@
 // The legend that a row describes.
 use crate::place;
 use crate::row;
+use band_lists::ValueRange;
+use band_lists::ValueRanges;
 use banded::Banded;
-use banded::ValueRange;
-use banded::ValueRanges;
 use bands::LegendBand;
 use catgegoric::CategoricNumeric;
 use colormap::ProcessedColorMap;

@@ -1,7 +1,7 @@
 // The legends of the examples, and what a sample is painted by one of them.
 use crate::say;
-use banded::ValueRange;
-use banded::ValueRanges;
+use band_lists::ValueRange;
+use band_lists::ValueRanges;
 use cast::Nodata;
 use color::Color;
 use colormap::ProcessedColorMap;

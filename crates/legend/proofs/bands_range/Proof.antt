@@ -3,7 +3,7 @@ use mathlib.Core.Path.{_≡_}
 use native.Mathlib.Omega.{arith}
 use lib.ListN.{length}
 use Rattle.legend.proofs.Ranging.{bands-none, bands-from-to}
-use Rattle.banded.proofs.Past.{noBand}
+use Rattle.band_columns.proofs.Past.{noBand}
 use borrow.Author.Needs.{needs}
 use Rattle.legend.proofs.bands_range.Statement.{statement}
 use Rattle.legend.proofs.bands_range.Tie as tie

@@ -43,7 +43,7 @@ use Rattle.banded.proofs.Rows.{Band, Held, held-makes, held-typed}
 use Rattle.banded.proofs.Calls.{calls-fact, and-fact}
 use Rattle.banded.proofs.GivenBands.{is-given}
 use Rattle.banded.proofs.Banded.default.Symbol.{name as #banded·default}
-use Rattle.banded.proofs.at_most_64.Symbol.{name as #banded·at-most-64}
+use Rattle.band_columns.proofs.at_most_64.Symbol.{name as #at-most-64}
 use Rattle.banded.proofs.with_bands.Symbol.{name as #banded·with-bands}
 use Rattle.banded.proofs.given.Symbol.{name as #banded·given}
 use Rattle.banded.proofs.Banded.new.Key.{name as #banded·new}
@@ -53,9 +53,9 @@ use Rattle.banded.proofs.MadeBanded.Laws as N′
 use Rattle.banded.proofs.Banded.default as default
 use Rattle.banded.proofs.Banded.default.Symbol as default-def
 use Rattle.banded.proofs.Banded.default.Met as default-thm
-use Rattle.banded.proofs.at_most_64 as at-most
-use Rattle.banded.proofs.at_most_64.Symbol as at-most-def
-use Rattle.banded.proofs.at_most_64.Met as at-most-thm
+use Rattle.band_columns.proofs.at_most_64 as at-most
+use Rattle.band_columns.proofs.at_most_64.Symbol as at-most-def
+use Rattle.band_columns.proofs.at_most_64.Met as at-most-thm
 use Rattle.banded.proofs.with_bands as with-bands
 use Rattle.banded.proofs.with_bands.Symbol as with-bands-def
 use Rattle.banded.proofs.with_bands.Met as with-bands-thm
@@ -89,7 +89,7 @@ module _ {M : Type 1} (𝓤 : URA M) (H : Heap 𝓤) (A : Atoms 𝓤) (mem : Mem
   -- each holds of the table of calls
   pub record Known (C : Calls 𝓤 H) : Type 2 where
     pub default-known : Triple 𝓤 (C #banded·default) Default
-    pub at-most-known : Triple 𝓤 (C #banded·at-most-64) AtMost
+    pub at-most-known : Triple 𝓤 (C #at-most-64) AtMost
     pub with-bands-known : Triple 𝓤 (C #banded·with-bands) WithBands
     pub given-known : Triple 𝓤 (C #banded·given) Giving
 
@@ -165,7 +165,7 @@ new-spec 𝓤 H 𝓜 𝓖 𝓡 =
     (tables 𝓤 H 𝓜 𝓡 code.env .C) (tables 𝓤 H 𝓜 𝓡 code.env .Λ) #banded·new code.function (code.unfolded 𝓤 H 𝓜 𝓡)
     (new-meets 𝓤 H (𝓖 .A) (givenOf 𝓤 H 𝓜 𝓖) (𝓜 .mem) (𝓡 .run) (tablesOf 𝓤 H 𝓜 (tables 𝓤 H 𝓜 𝓡 code.env)) (record {
       default-known = cited 𝓤 H (Default 𝓤 H (𝓖 .A) (𝓜 .mem) (𝓡 .run)) 𝓜 𝓡 code.env #banded·default default-def.routine code.calls-banded·Banded·default (default-thm.met 𝓤 H 𝓜 𝓖 𝓡);
-      at-most-known = cited 𝓤 H (AtMost 𝓤 H (𝓖 .A) (𝓜 .mem) (𝓡 .run)) 𝓜 𝓡 code.env #banded·at-most-64 at-most-def.routine code.calls-banded·at-most-64 (at-most-thm.met 𝓤 H 𝓜 𝓖 𝓡);
+      at-most-known = cited 𝓤 H (AtMost 𝓤 H (𝓖 .A) (𝓜 .mem) (𝓡 .run)) 𝓜 𝓡 code.env #at-most-64 at-most-def.routine code.calls-band-columns·at-most-64 (at-most-thm.met 𝓤 H 𝓜 𝓖 𝓡);
       with-bands-known = cited 𝓤 H (WithBands 𝓤 H (𝓖 .A) (𝓜 .mem) (𝓡 .run)) 𝓜 𝓡 code.env #banded·with-bands with-bands-def.routine code.calls-banded·with-bands (with-bands-thm.met 𝓤 H 𝓜 𝓖 𝓡);
       given-known = cited 𝓤 H (Giving 𝓤 H (𝓖 .A) (𝓜 .mem) (𝓡 .run)) 𝓜 𝓡 code.env #banded·given given-def.routine code.calls-banded·given (given-thm.met 𝓤 H 𝓜 𝓖 𝓡);
     }))

@@ -3,7 +3,8 @@ use mathlib.Core.Path.{sym, _∙_}
 use native.Mathlib.Omega.{arith}
 use borrow.Author.Needs.{needs}
 use Rattle.colormap.specs.Positions.{rampColors}
-use Rattle.banded.proofs.Manual.{manual-few, manual-refused, manual-made}
+use Rattle.band_lists.proofs.Manual.{manual-few}
+use Rattle.banded.proofs.Manual.{manual-refused, manual-made}
 use Rattle.banded.proofs.Equal.{ramp-count}
 use Rattle.banded.proofs.Banded.with_manual_ranges_from_ramp.Statement.{statement}
 use Rattle.banded.proofs.Banded.with_manual_ranges_from_ramp.Tie as tie

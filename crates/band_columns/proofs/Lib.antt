@@ -1,0 +1,3 @@
+pub mod Past
+pub mod Unpacking
+pub mod Outer

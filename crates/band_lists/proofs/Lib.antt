@@ -1,0 +1,4 @@
+pub mod Past
+pub mod Storing
+pub mod Equal
+pub mod Manual
