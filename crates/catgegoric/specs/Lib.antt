@@ -1,6 +1,1 @@
-pub mod Categories
-pub mod Table
-pub mod Keys
-pub mod Range
 pub mod Made
-pub mod Steps

@@ -10,8 +10,8 @@ use Rattle.band_lists.specs.ManualRanges.{firstEmpty, manualRefusal}
 use Rattle.banded.specs.Record.{bandedOf, beside, bandedRefusal}
 use Rattle.banded.specs.EqualBands.{withEqualBands}
 use Rattle.banded.specs.ManualRanges.{withManualRanges}
-use Rattle.catgegoric.specs.Range.{tooWide, rangeKeys}
-use Rattle.catgegoric.specs.Keys.{outsideFrom}
+use Rattle.key_lists.specs.Range.{tooWide, rangeKeys}
+use Rattle.key_lists.specs.Keys.{outsideFrom}
 use Rattle.catgegoric.specs.Made.{madeUnless, manyRefusal, valuesRefusal, wideRefusal, rangeRefusal, categoricRefusal}
 use Rattle.painting.specs.Contracts.{plainRefusal, laneRefusal}
 use Rattle.legend.specs.Record.{storedRefusal}

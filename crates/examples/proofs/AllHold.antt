@@ -19,9 +19,9 @@ use Rattle.band_lists.specs.EqualBands.{bandStep, bandStart, equalBands, equalR
 use Rattle.banded.specs.Record.{bandedOf, beside}
 use Rattle.banded.specs.EqualBands.{withEqualBands}
 use Rattle.categories.specs.Rule as rule
-use Rattle.catgegoric.specs.Categories.{inserted, firstOf}
-use Rattle.catgegoric.specs.Table.{foremost, tabled, tableSize, written, table}
-use Rattle.catgegoric.specs.Keys.{outsideFrom}
+use Rattle.sorted_keys.specs.Categories.{inserted, firstOf}
+use Rattle.lookup_table.specs.Table.{foremost, tabled, tableSize, written, table}
+use Rattle.key_lists.specs.Keys.{outsideFrom}
 use Rattle.catgegoric.specs.Made.{recordOf, madeUnless, manyRefusal, valuesRefusal}
 use Rattle.examples.specs.Examples.{gray, G, categoryOf, asked, examples, allHold}
 

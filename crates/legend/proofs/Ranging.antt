@@ -22,9 +22,9 @@ use Rattle.refusal.proofs.Outcomes.{passed, not-done}
 use Rattle.bands.specs.declared.LegendBand.{LegendBand}
 use Rattle.bands.specs.Band.{lastOf}
 use Rattle.band_columns.proofs.Outer.{last-of}
-use Rattle.catgegoric.specs.Table.{foremost, smallest, largest}
-use Rattle.catgegoric.specs.Keys.{outside, outsideFrom, keysRefusal}
-use Rattle.catgegoric.proofs.Numbers.{back}
+use Rattle.lookup_table.specs.Table.{foremost, smallest, largest}
+use Rattle.key_lists.specs.Keys.{outside, outsideFrom, keysRefusal}
+use Rattle.key_lists.proofs.Numbers.{back}
 use Rattle.legend.specs.declared.LegendKind.{LegendKind}
 use Rattle.legend.specs.declared.LegendKind.the-variants as kind
 use Rattle.legend.specs.declared.Legend.{Legend}

@@ -11,8 +11,8 @@ use Rattle.bands.specs.declared.LegendBand.{LegendBand}
 use Rattle.bands.specs.Band.{lastOf}
 use Rattle.band_lists.specs.declared.ValueRange.{ValueRange}
 use Rattle.banded.specs.Record.{counted}
-use Rattle.catgegoric.specs.Table.{smallest, largest}
-use Rattle.catgegoric.specs.Keys.{keysRefusal}
+use Rattle.lookup_table.specs.Table.{smallest, largest}
+use Rattle.key_lists.specs.Keys.{keysRefusal}
 use Rattle.legend.specs.declared.LegendKind.{LegendKind}
 use Rattle.legend.specs.declared.LegendKind.the-variants as kind
 use Rattle.legend.specs.declared.Legend.{Legend}

@@ -22,7 +22,7 @@ ghost use Rattle.linear.specs.Made.{linearOfRamp, linearOfList};
 ghost use Rattle.banded.specs.EqualBands.{withEqualBands};
 ghost use Rattle.banded.specs.ManualRanges.{withManualRanges};
 ghost use Rattle.catgegoric.specs.Made.{forValues, forValuesFromRamp, forValueRange, forValueRangeFromRamp};
-ghost use Rattle.catgegoric.specs.Keys.{keysRefusal};
+ghost use Rattle.key_lists.specs.Keys.{keysRefusal};
 ghost use Rattle.legend.specs.Record.{linearLegend, bandedLegend, categoricLegend, emptyLegend, storedRefusal, simdSupported};
 ghost use Rattle.legend.specs.Building.{madeLinear, madeBanded, madeCategoric};
 ghost use Rattle.legend.specs.ValueRanges.{bandsRange, keysRange, keysIn, rangeIn, rangeRefusal, totalValueRange};
@@ -323,7 +323,7 @@ fn key_refusal(legend: Legend) -> Answer
     match kind {
         LegendKind::Linear => Answer::Done,
         LegendKind::Banded => Answer::Done,
-        LegendKind::CategoricNumeric => catgegoric::keys_refusal(&categoric.keys, categoric.count),
+        LegendKind::CategoricNumeric => key_lists::keys_refusal(&categoric.keys, categoric.count),
     }
 }
 
@@ -379,7 +379,7 @@ fn keys_range(keys: &[i64; 256], count: usize) -> ValueRange
         };
     }
     ValueRange {
-        start: catgegoric::smallest(keys, count) as f32,
-        end: catgegoric::largest(keys, count) as f32,
+        start: lookup_table::smallest(keys, count) as f32,
+        end: lookup_table::largest(keys, count) as f32,
     }
 }

@@ -9,11 +9,11 @@ use lib.Seq.{length-take-le}
 use mir.Syntax.{w64}
 use mir.Val.{toZ, ofZ}
 use Rattle.catgegoric.specs.Made.{recordOf}
-use Rattle.catgegoric.specs.Categories.{firstOf}
-use Rattle.catgegoric.specs.Steps.{Holds}
+use Rattle.sorted_keys.specs.Categories.{firstOf}
+use Rattle.sorted_keys.specs.Steps.{Holds}
 use Rattle.catgegoric.proofs.Making.{recorded}
-use Rattle.catgegoric.proofs.Inserting.{holds-none, holds-next, length-firstOf, keys-long, colors-long}
-use Rattle.catgegoric.proofs.Numbers.{back}
+use Rattle.sorted_keys.proofs.Inserting.{holds-none, holds-next, length-firstOf, keys-long, colors-long}
+use Rattle.key_lists.proofs.Numbers.{back}
 use Rattle.catgegoric.proofs.new.Statement.{statement}
 use Rattle.catgegoric.proofs.new.Tie as tie
 

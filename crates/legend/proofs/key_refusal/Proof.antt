@@ -1,6 +1,6 @@
 -- `key_refusal` meets its contract. Assumes nothing.
 use mathlib.Core.Path.{sym, ap, _∙_}
-use Rattle.catgegoric.specs.Keys.{outsideFrom, keysRefusal}
+use Rattle.key_lists.specs.Keys.{outsideFrom, keysRefusal}
 use Rattle.legend.specs.ValueRanges.{keysIn}
 use Rattle.legend.proofs.Stored.{categories-stored}
 use borrow.Author.Needs.{needs}

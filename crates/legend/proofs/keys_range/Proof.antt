@@ -8,7 +8,7 @@ use lib.ListN.{length, take}
 use lib.Seq.{length-take-le}
 use mir.Syntax.{w64}
 use mir.Val.{toZ, ofZ}
-use Rattle.catgegoric.specs.Table.{smallest, largest}
+use Rattle.lookup_table.specs.Table.{smallest, largest}
 use Rattle.legend.specs.ValueRanges.{fromTo}
 use Rattle.legend.proofs.Ranging.{keys-none, keys-from-to, smallest-inside, largest-inside, same, fits}
 use borrow.Author.Needs.{needs}

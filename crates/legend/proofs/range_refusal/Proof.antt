@@ -1,7 +1,7 @@
 -- `range_refusal` meets its contract. Assumes nothing.
 use mathlib.Core.Path.{sym, ap, _∙_}
 use Rattle.refusal.specs.Outcome.{firstOf}
-use Rattle.catgegoric.specs.Keys.{keysRefusal}
+use Rattle.key_lists.specs.Keys.{keysRefusal}
 use Rattle.legend.specs.ValueRanges.{keysIn, rangeRefusal}
 use borrow.Author.Needs.{needs}
 use Rattle.legend.proofs.range_refusal.Statement.{statement}

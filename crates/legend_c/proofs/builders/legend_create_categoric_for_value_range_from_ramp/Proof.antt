@@ -4,7 +4,7 @@ use Rattle.legend.specs.Building.{madeCategoric}
 use Rattle.c_types.specs.Records.{madeUnless}
 use Rattle.legend_c.proofs.Unless.{unless}
 use Rattle.catgegoric.specs.Made.{forValueRangeFromRamp}
-use Rattle.catgegoric.proofs.Numbers.{back₂}
+use Rattle.key_lists.proofs.Numbers.{back₂}
 use borrow.Author.Needs.{needs}
 use Rattle.legend_c.proofs.builders.legend_create_categoric_for_value_range_from_ramp.Statement.{
   statement,
