@@ -16,8 +16,8 @@ use Rattle.painting.specs.Chunking.{ChunkLaw}
 use Rattle.painting.proofs.Lists.{getD-map-in}
 use Rattle.painting.proofs.Masking.{length-masked, getD-masked, masked-map}
 use Rattle.linear.specs.Made.{linearColors}
-use Rattle.linear.specs.Rule as linear
-use Rattle.linear.proofs.LaneLaw as linear-law
+use Rattle.linear_rule.specs.Rule as linear
+use Rattle.linear_rule.proofs.LaneLaw as linear-law
 use Rattle.bands.specs.PlainRule as bands
 use Rattle.bands.specs.LaneRule as lanes
 use Rattle.bands.proofs.LaneLaw as band-law

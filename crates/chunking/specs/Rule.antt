@@ -15,7 +15,7 @@ use Rattle.cast.specs.declared.Nodata.{Nodata}
 use Rattle.colormapper.specs.Unmappable.{unmappable}
 use Rattle.painting.specs.Contracts.{PlainPainting, LanePainting}
 use Rattle.painting.specs.Chunking.{full}
-use Rattle.linear.specs.Odd.{OddFraction}
+use Rattle.linear_rule.specs.Odd.{OddFraction}
 use Rattle.bands.specs.Sound.{Sound}
 use Rattle.banded.specs.Record.{counted}
 use Rattle.legend.specs.declared.Legend.{Legend}

@@ -11,7 +11,7 @@ use Rattle.interpolate.specs.Fraction.{fraction, plainFraction}
 use Rattle.lookup.specs.Entries.{plainEntry, laneEntry}
 use Rattle.colormap.specs.Positions.{step, position, rampColors}
 use Rattle.colormapper.specs.Unmappable.{unmappable}
-use Rattle.linear.specs.Rule as linear
+use Rattle.linear_rule.specs.Rule as linear
 use Rattle.bands.specs.Band.{lastOf}
 use Rattle.bands.specs.PlainRule.{firstBand, edges, plainRule, bandColor, ruleColor}
 use Rattle.bands.specs.LaneRule.{edged, scanned, laneColors}

@@ -18,7 +18,7 @@ use Rattle.colormap.specs.Positions.{rampColors}
 use Rattle.colormapper.specs.declared.UnmappableColors.{UnmappableColors}
 use Rattle.colormapper.specs.Unmappable.{unmappable}
 use Rattle.painting.specs.Masked.{maskedColor}
-use Rattle.linear.specs.Rule as linear
+use Rattle.linear_rule.specs.Rule as linear
 use Rattle.bands.specs.declared.LegendBand.{LegendBand}
 use Rattle.bands.specs.PlainRule as bands
 use Rattle.bands.specs.LaneRule.{laneColors}

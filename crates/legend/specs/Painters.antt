@@ -13,7 +13,7 @@ use Rattle.painting.specs.Contracts.{Painter}
 use Rattle.painting.specs.Masked.{painterOf}
 use Rattle.linear.specs.declared.Linear.{Linear}
 use Rattle.linear.specs.Made.{linearColors}
-use Rattle.linear.specs.Rule as linear
+use Rattle.linear_rule.specs.Rule as linear
 use Rattle.bands.specs.declared.LegendBand.{LegendBand}
 use Rattle.bands.specs.PlainRule as bands
 use Rattle.bands.specs.LaneRule as lanes

@@ -1,5 +1,1 @@
 pub mod Building
-pub mod Choosing
-pub mod Edges
-pub mod Inside
-pub mod LaneLaw

@@ -14,7 +14,7 @@ use Rattle.colormapper.proofs.Excluding.{excluded-is}
 use Rattle.painting.specs.Masked.{masked, maskedColor}
 use Rattle.linear.specs.declared.Linear.{Linear}
 use Rattle.linear.specs.Made.{linearColors}
-use Rattle.linear.specs.Rule as linear
+use Rattle.linear_rule.specs.Rule as linear
 use Rattle.bands.specs.declared.LegendBand.{LegendBand}
 use Rattle.bands.specs.PlainRule as bands
 use Rattle.bands.specs.LaneRule as lanes

@@ -4,7 +4,7 @@ use mathlib.Core.List.{List}
 use lib.Ieee.{Float}
 use Rattle.colormapper.specs.Unmappable.{excluded}
 use Rattle.painting.specs.Masked.{masked, maskedColor}
-use Rattle.linear.specs.Rule.{plainColor, laneColors}
+use Rattle.linear_rule.specs.Rule.{plainColor, laneColors}
 use Rattle.paint_linear.specs.declared.LinearPaint.{LinearPaint}
 
 abbrev pub plainSample : (cmap : List ℕ) → LinearPaint → Float → ℕ

@@ -23,35 +23,35 @@ pub struct LinearPaint {
 fn sample(cmap: &[u32; 256], p: LinearPaint, value: f32) -> u32
     ensures { λ r. ⌜ r ≡ plainSample (now (cmap .entry)) p value ⌝ }
 {
-    let color = linear::color_for_numeric_value(cmap, p.start, p.end, p.colors, value);
+    let color = linear_rule::color_for_numeric_value(cmap, p.start, p.end, p.colors, value);
     p.exclusions.masked(value, p.colors.nodata, color)
 }
 
 fn words_plain(cmap: &[u32; 256], p: LinearPaint, v: [f32; 16]) -> [u32; 16]
     ensures { λ d. ⌜ take 16 d ≡ map (plainSample (now (cmap .entry)) p) (take 16 v) ⌝ }
 {
-    let c = linear::colors_for_numeric_values(cmap, p.start, p.end, p.colors, v);
+    let c = linear_rule::colors_for_numeric_values(cmap, p.start, p.end, p.colors, v);
     p.exclusions.masked_simd(16, v, p.colors.nodata, c)
 }
 
 fn words4(cmap: &[u32; 256], p: LinearPaint, v: [f32; 16]) -> [u32; 16]
     ensures { λ d. ⌜ take 4 d ≡ laneChunk (now (cmap .entry)) p (take 4 v) ⌝ }
 {
-    let c = linear::color_for_numeric_value_simd4(cmap, p.start, p.end, p.colors, v);
+    let c = linear_rule::color_for_numeric_value_simd4(cmap, p.start, p.end, p.colors, v);
     p.exclusions.masked_simd(4, v, p.colors.nodata, c)
 }
 
 fn words8(cmap: &[u32; 256], p: LinearPaint, v: [f32; 16]) -> [u32; 16]
     ensures { λ d. ⌜ take 8 d ≡ laneChunk (now (cmap .entry)) p (take 8 v) ⌝ }
 {
-    let c = linear::color_for_numeric_value_simd8(cmap, p.start, p.end, p.colors, v);
+    let c = linear_rule::color_for_numeric_value_simd8(cmap, p.start, p.end, p.colors, v);
     p.exclusions.masked_simd(8, v, p.colors.nodata, c)
 }
 
 fn words16(cmap: &[u32; 256], p: LinearPaint, v: [f32; 16]) -> [u32; 16]
     ensures { λ d. ⌜ take 16 d ≡ laneChunk (now (cmap .entry)) p (take 16 v) ⌝ }
 {
-    let c = linear::color_for_numeric_value_simd16(cmap, p.start, p.end, p.colors, v);
+    let c = linear_rule::color_for_numeric_value_simd16(cmap, p.start, p.end, p.colors, v);
     p.exclusions.masked_simd(16, v, p.colors.nodata, c)
 }
 

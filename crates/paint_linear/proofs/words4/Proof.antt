@@ -6,7 +6,7 @@ use Rattle.painting.proofs.Masking.{lanes-masked}
 use Rattle.painting.specs.Masked.{masked}
 use Rattle.colormapper.specs.Unmappable.{excluded}
 use lib.Ieee.{nan}
-use Rattle.linear.specs.Rule.{laneColor}
+use Rattle.linear_rule.specs.Rule.{laneColor}
 use borrow.Author.Needs.{needs}
 use Rattle.paint_linear.proofs.words4.Statement.{statement}
 use Rattle.paint_linear.proofs.words4.Tie as tie

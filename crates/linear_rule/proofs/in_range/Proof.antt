@@ -1,7 +1,7 @@
 -- `in_range` meets its contract. Assumes nothing.
 use borrow.Author.Needs.{needs}
-use Rattle.linear.proofs.in_range.Statement.{statement}
-use Rattle.linear.proofs.in_range.Tie as tie
+use Rattle.linear_rule.proofs.in_range.Statement.{statement}
+use Rattle.linear_rule.proofs.in_range.Tie as tie
 
 pick-requires : tie.Need-pick-requires
 pick-requires c κs = search needs

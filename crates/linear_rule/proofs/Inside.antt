@@ -8,7 +8,7 @@ use Rattle.floats.specs.RampIndex.{nought, one}
 use Rattle.floats.proofs.Order.{not-le, le-lt, lt-le, lt-lt, lt-irrefl-float}
 use Rattle.interpolate.specs.Fraction.{fraction}
 use Rattle.colormapper.specs.Tolerance.{E}
-use Rattle.linear.proofs.Edges.{start-moves-down, end-moves-up}
+use Rattle.linear_rule.proofs.Edges.{start-moves-down, end-moves-up}
 
 -- ---- where a result is no NaN, no operand is
 abbrev real : Float → Bool

@@ -5,9 +5,9 @@ use lib.ListN.{getD-replicate}
 use lib.Ieee.{ofBits, nan}
 use Rattle.interpolate.specs.Fraction.{plainFraction}
 use Rattle.floats.specs.RampIndex.{nought}
-use Rattle.linear.proofs.LaneLaw.{fraction-same}
-use Rattle.linear.proofs.fractions.Statement.{statement}
-use Rattle.linear.proofs.fractions.Tie as tie
+use Rattle.linear_rule.proofs.LaneLaw.{fraction-same}
+use Rattle.linear_rule.proofs.fractions.Statement.{statement}
+use Rattle.linear_rule.proofs.fractions.Tie as tie
 
 returns : tie.Need-returns
 unfolding plainFraction ofBits

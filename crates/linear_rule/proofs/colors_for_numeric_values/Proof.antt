@@ -1,8 +1,8 @@
 -- `colors_for_numeric_values` meets its contract, phase by phase in each lane. Assumes nothing.
 use borrow.Author.Needs.{needs}
-use Rattle.linear.proofs.Choosing.{plain-phases}
-use Rattle.linear.proofs.colors_for_numeric_values.Statement.{statement}
-use Rattle.linear.proofs.colors_for_numeric_values.Tie as tie
+use Rattle.linear_rule.proofs.Choosing.{plain-phases}
+use Rattle.linear_rule.proofs.colors_for_numeric_values.Statement.{statement}
+use Rattle.linear_rule.proofs.colors_for_numeric_values.Tie as tie
 
 fractions-requires : tie.Need-fractions-requires
 fractions-requires c κs = search needs

@@ -19,9 +19,9 @@ use Rattle.lookup.specs.declared.Entry.the-variants.{At, Outside}
 use Rattle.lookup.specs.Entries.{plainEntry, laneEntry}
 use Rattle.colormapper.specs.declared.UnmappableColors.{UnmappableColors}
 use Rattle.colormapper.specs.Tolerance.{E}
-use Rattle.linear.specs.Rule.{looked-up, ranged, plainRule, laneRule, ruleColor, plainColor, laneColor}
-use Rattle.linear.specs.Odd.{OddFraction}
-use Rattle.linear.proofs.Inside.{inside}
+use Rattle.linear_rule.specs.Rule.{looked-up, ranged, plainRule, laneRule, ruleColor, plainColor, laneColor}
+use Rattle.linear_rule.specs.Odd.{OddFraction}
+use Rattle.linear_rule.proofs.Inside.{inside}
 
 -- ---- the two lookups of one fraction
 pub entry-same : (f : Float) → T (fits binary32 f) → toBits binary32 f ≢ 0x3B00_8080 → laneEntry f ≡ plainEntry f

@@ -1,8 +1,8 @@
 -- `color_for_numeric_value_simd4` meets its contract, phase by phase in each lane. Assumes nothing.
 use borrow.Author.Needs.{needs}
-use Rattle.linear.proofs.Choosing.{lane-phases}
-use Rattle.linear.proofs.color_for_numeric_value_simd4.Statement.{statement}
-use Rattle.linear.proofs.color_for_numeric_value_simd4.Tie as tie
+use Rattle.linear_rule.proofs.Choosing.{lane-phases}
+use Rattle.linear_rule.proofs.color_for_numeric_value_simd4.Statement.{statement}
+use Rattle.linear_rule.proofs.color_for_numeric_value_simd4.Tie as tie
 
 linear-map-to-float-simd-requires : tie.Need-linear-map-to-float-simd-requires
 linear-map-to-float-simd-requires c κs = search needs

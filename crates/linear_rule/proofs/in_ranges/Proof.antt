@@ -5,9 +5,9 @@ use borrow.Author.Needs.{needs}
 use lib.ListN.{getD}
 use lib.Ieee.{nan}
 use Rattle.lists.proofs.Filling.{Filling, filling-start, filling-turn, filling-end}
-use Rattle.linear.specs.Rule.{byRange}
-use Rattle.linear.proofs.in_ranges.Statement.{statement}
-use Rattle.linear.proofs.in_ranges.Tie as tie
+use Rattle.linear_rule.specs.Rule.{byRange}
+use Rattle.linear_rule.proofs.in_ranges.Statement.{statement}
+use Rattle.linear_rule.proofs.in_ranges.Tie as tie
 
 abbrev Inv-loop : tie.InvT-loop
 Inv-loop lanes start end u value color result₀ i₀ result i = Filling 0 (λ k. byRange start end (getD value k nan) (u .low) (u .high) (getD color k 0)) 16 lanes i result

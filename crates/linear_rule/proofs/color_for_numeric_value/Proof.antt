@@ -1,8 +1,8 @@
 -- `color_for_numeric_value` meets its contract, phase by phase. Assumes nothing.
 use borrow.Author.Needs.{needs}
-use Rattle.linear.proofs.Choosing.{plain-phases}
-use Rattle.linear.proofs.color_for_numeric_value.Statement.{statement}
-use Rattle.linear.proofs.color_for_numeric_value.Tie as tie
+use Rattle.linear_rule.proofs.Choosing.{plain-phases}
+use Rattle.linear_rule.proofs.color_for_numeric_value.Statement.{statement}
+use Rattle.linear_rule.proofs.color_for_numeric_value.Tie as tie
 
 linear-map-to-float-requires : tie.Need-linear-map-to-float-requires
 linear-map-to-float-requires c κs = search needs

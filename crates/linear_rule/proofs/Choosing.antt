@@ -9,7 +9,7 @@ use Rattle.lookup.specs.declared.Entry.{Entry}
 use Rattle.lookup.specs.Entries.{plainEntry, laneEntry, entryColor}
 use Rattle.colormapper.specs.declared.UnmappableColors.{UnmappableColors}
 use Rattle.colormapper.specs.Tolerance.{E}
-use Rattle.linear.specs.Rule.{low, high, looked-up, byRange, ranged, plainRule, laneRule, ruleColor, plainColor, laneColor}
+use Rattle.linear_rule.specs.Rule.{low, high, looked-up, byRange, ranged, plainRule, laneRule, ruleColor, plainColor, laneColor}
 
 module _ (cmap : List ℕ) (start end : Float) (u : UnmappableColors) (v : Float) where
   chosen : (entry : Entry) → byRange start end v (u .low) (u .high) (entryColor cmap entry) ≡ ruleColor cmap u (ranged start end v entry)

@@ -1,0 +1,4 @@
+pub mod Choosing
+pub mod Edges
+pub mod Inside
+pub mod LaneLaw
