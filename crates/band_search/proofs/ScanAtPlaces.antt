@@ -16,12 +16,12 @@ use Rattle.lists.specs.Lanes.{Lanes}
 use Rattle.lists.specs.Tabulate.{tabulate}
 use Rattle.lists.proofs.Numbers.{lt-or-le}
 use Rattle.bands.specs.declared.LegendBand.{LegendBand}
-use Rattle.bands.specs.LaneRule.{Lane, started, over, allInside}
+use Rattle.band_lanes.specs.LaneRule.{Lane, started, over, allInside}
 use Rattle.bands.specs.Packed.{bandAt, packed}
-use Rattle.bands.specs.Parts.{allBelow, Sweep, swept, Scanned}
-use Rattle.bands.proofs.Entries.{same-rule, front, map-rule}
+use Rattle.band_lanes.specs.Parts.{allBelow, Sweep, swept, Scanned}
+use Rattle.band_lanes.proofs.Entries.{same-rule, front, map-rule}
 use Rattle.bands.proofs.Forms.{drop-band, drop-end}
-use Rattle.bands.proofs.Chunk.{below-same, all-inside}
+use Rattle.band_lanes.proofs.Chunk.{below-same, all-inside}
 use Rattle.band_search.specs.Apart.{apart}
 use Rattle.band_search.specs.Place.{placeOf, heldAt, colorAt, Placed}
 use Rattle.band_search.proofs.Counting.{place-below, no-other}

@@ -9,7 +9,7 @@ ghost use lib.ListN.{getD};
 ghost use Rattle.lists.specs.Lanes.{Lanes};
 ghost use Rattle.bands.specs.Packed.{packed};
 ghost use Rattle.bands.specs.PlainRule.{plainColor};
-ghost use Rattle.bands.specs.Parts.{allBelow};
+ghost use Rattle.band_lanes.specs.Parts.{allBelow};
 ghost use Rattle.band_search.specs.Apart.{apart};
 ghost use Rattle.band_search.specs.Place.{heldAt, colorAt, InArrays, Placed};
 

@@ -1,8 +1,8 @@
--- The plain rule as colours, and both rules over bands that stand in three arrays. Assumes nothing.
+-- The plain rule as colours, and over bands that stand in three arrays. Assumes nothing.
 use Prim.Native.Nat.{ℕ, zero, suc, _+_, _-_, _≤_, _<_}
 use mathlib.Core.Path.{_≡_, refl, sym, ap, ap₂, _∙_}
 use mathlib.Core.Bool.{Bool, true, false, cond}
-use mathlib.Core.List.{List, [], _∷_, map}
+use mathlib.Core.List.{List, [], _∷_}
 use native.Mathlib.Numerals.{add-one}
 use native.Mathlib.Omega.{arith}
 use lib.Ieee.{Float, lt}
@@ -15,7 +15,6 @@ use Rattle.colormapper.specs.Tolerance.{within}
 use Rattle.bands.specs.declared.LegendBand.{LegendBand}
 use Rattle.bands.specs.Band.{holds, lastOf}
 use Rattle.bands.specs.PlainRule.{Rule, band, lowerEdge, upperEdge, low, high, gap, firstBand, edges, plainRule, bandColor, ruleColor, plainColor}
-use Rattle.bands.specs.LaneRule.{started, edged, scanned, laneColors}
 use Rattle.bands.specs.Packed.{bandAt, packed}
 use Rattle.bands.specs.Parts.{firstColor, edgeColor}
 
@@ -85,10 +84,6 @@ module _ (starts ends : List Float) (colors : List ℕ) where
   unfolding packed tabulate plainRule ruleColor
   plain-none count u v e = ap (λ (n : ℕ). plainColor (bands n) u v) e
 
-  pub lane-none : (count : ℕ) (u : UnmappableColors) (vs : List Float) → count ≡ 0 → laneColors (bands count) u vs ≡ map (λ (v : Float). u .nodata) vs
-  unfolding packed tabulate laneColors
-  lane-none count u vs e = ap (λ (n : ℕ). laneColors (bands n) u vs) e
-
   -- the bands from the one at i on
   pub drop-band : (count i : ℕ) → i < count → drop i (bands count) ≡ f i ∷ drop (i + 1) (bands count)
   unfolding packed
@@ -100,18 +95,13 @@ module _ (starts ends : List Float) (colors : List ℕ) where
   unfolding packed
   drop-end count i h = drop-of-length-le (tabulate count f) {i = i} (omega (arith, length-tabulate count f))
 
-  last-is : (n : ℕ) → lastOf (f 0) (tabulate n (λ k. f (suc k))) ≡ f (suc n - 1)
+  pub last-is : (n : ℕ) → lastOf (f 0) (tabulate n (λ k. f (suc k))) ≡ f (suc n - 1)
   last-is n = let e : n ≡ suc n - 1 = omega arith in last-at f n ∙ ap f e
 
   pub plain-packed : (count : ℕ) (u : UnmappableColors) (v : Float) → 0 < count → plainColor (bands count) u v ≡ firstColor (bands count) v (edgeColor (f 0) (f (count - 1)) u v)
   unfolding packed tabulate
   plain-packed zero u v h = absurd (omega arith)
   plain-packed (suc n) u v h = let bs = tabulate n (λ k. f (suc k)) in plain-form u (f 0) bs v ∙ ap (λ (l : LegendBand). firstColor (f 0 ∷ bs) v (edgeColor (f 0) l u v)) (last-is n)
-
-  pub lane-packed : (count : ℕ) (u : UnmappableColors) (vs : List Float) → 0 < count → laneColors (bands count) u vs ≡ scanned (edged u (f 0) (f (count - 1))) (bands count) (map (started (u .nodata)) vs)
-  unfolding packed tabulate laneColors
-  lane-packed zero u vs h = absurd (omega arith)
-  lane-packed (suc n) u vs h = let bs = tabulate n (λ k. f (suc k)) in ap (λ (l : LegendBand). scanned (edged u (f 0) l) (f 0 ∷ bs) (map (started (u .nodata)) vs)) (last-is n)
 
   -- the first band that holds a value, from the one at i on
   module _ (count i : ℕ) (v : Float) (o : ℕ) where

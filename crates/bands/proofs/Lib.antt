@@ -1,9 +1,2 @@
-pub mod Entries
-pub mod Updating
 pub mod Edges
 pub mod Forms
-pub mod Chunk
-pub mod Settling
-pub mod Ordering
-pub mod SampleLaw
-pub mod LaneLaw

@@ -4,8 +4,8 @@ use lib.Ieee.{add, sub, lt, le, ofBits, isNan}
 use lib.Ieee.Scale.{finite}
 use Rattle.bands.specs.Band.{lastOf}
 use Rattle.bands.specs.PlainRule.{firstBand, edges, plainRule, bandColor, ruleColor}
-use Rattle.bands.specs.LaneRule.{edged, scanned, laneColors}
-use Rattle.bands.specs.Sound.{eachBand, eachAfter, eachNext, firstAndLast}
+use Rattle.band_lanes.specs.LaneRule.{edged, scanned, laneColors}
+use Rattle.band_lanes.specs.Sound.{eachBand, eachAfter, eachNext, firstAndLast}
 use Rattle.chunking.specs.Cases.{holds, allHold, cases}
 
 pub all-hold : T (allHold cases)

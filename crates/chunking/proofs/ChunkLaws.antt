@@ -19,8 +19,8 @@ use Rattle.linear.specs.Made.{linearColors}
 use Rattle.linear_rule.specs.Rule as linear
 use Rattle.linear_rule.proofs.LaneLaw as linear-law
 use Rattle.bands.specs.PlainRule as bands
-use Rattle.bands.specs.LaneRule as lanes
-use Rattle.bands.proofs.LaneLaw as band-law
+use Rattle.band_lanes.specs.LaneRule as lanes
+use Rattle.band_lanes.proofs.LaneLaw as band-law
 use Rattle.banded.specs.Record.{counted}
 use Rattle.banded.specs.Unmappable.{bandedUnmappable}
 use Rattle.categories.specs.Rule as categories

@@ -14,7 +14,7 @@ use Rattle.lists.specs.Padded.{padded}
 use Rattle.colormapper.specs.Settings.{noSettings}
 use Rattle.bands.specs.declared.LegendBand.{LegendBand}
 use Rattle.bands.specs.Band.{lastOf}
-use Rattle.bands.specs.Sound.{finiteBand, startsBelowEnd, ascends, clears, eachBand, eachAfter, eachNext, firstAndLast}
+use Rattle.band_lanes.specs.Sound.{finiteBand, startsBelowEnd, ascends, clears, eachBand, eachAfter, eachNext, firstAndLast}
 use Rattle.banded.specs.Record.{bandedOf}
 use Rattle.catgegoric.specs.Made.{emptyCategoric}
 use Rattle.legend.specs.Record.{linearLegend, bandedLegend, categoricLegend}

@@ -8,8 +8,8 @@ use lib.ListN.{getD}
 use Rattle.colormapper.specs.declared.UnmappableColors.{UnmappableColors}
 use Rattle.bands.specs.declared.LegendBand.{LegendBand}
 use Rattle.bands.specs.PlainRule.{plainColor}
-use Rattle.bands.specs.LaneRule.{laneColors}
-use Rattle.bands.specs.Sound.{finiteBand, startsBelowEnd, ascends, clears, wideBand, eachBand, eachNext, firstAndLast}
+use Rattle.band_lanes.specs.LaneRule.{laneColors}
+use Rattle.band_lanes.specs.Sound.{finiteBand, startsBelowEnd, ascends, clears, wideBand, eachBand, eachNext, firstAndLast}
 
 -- which conditions a list keeps
 pub record Kept : Type 0 where

@@ -16,7 +16,7 @@ use Rattle.colormapper.specs.Unmappable.{unmappable}
 use Rattle.painting.specs.Contracts.{PlainPainting, LanePainting}
 use Rattle.painting.specs.Chunking.{full}
 use Rattle.linear_rule.specs.Odd.{OddFraction}
-use Rattle.bands.specs.Sound.{Sound}
+use Rattle.band_lanes.specs.Sound.{Sound}
 use Rattle.banded.specs.Record.{counted}
 use Rattle.legend.specs.declared.Legend.{Legend}
 use Rattle.legend.specs.declared.LegendKind.{LegendKind}

@@ -14,7 +14,7 @@ use Rattle.colormapper.specs.Unmappable.{unmappable}
 use Rattle.linear_rule.specs.Rule as linear
 use Rattle.bands.specs.Band.{lastOf}
 use Rattle.bands.specs.PlainRule.{firstBand, edges, plainRule, bandColor, ruleColor}
-use Rattle.bands.specs.LaneRule.{edged, scanned, laneColors}
+use Rattle.band_lanes.specs.LaneRule.{edged, scanned, laneColors}
 use Rattle.band_lists.specs.EqualBands.{bandStep, bandStart, equalBands, equalRefusal}
 use Rattle.banded.specs.Record.{bandedOf, beside}
 use Rattle.banded.specs.EqualBands.{withEqualBands}

@@ -21,7 +21,7 @@ use Rattle.painting.specs.Masked.{maskedColor}
 use Rattle.linear_rule.specs.Rule as linear
 use Rattle.bands.specs.declared.LegendBand.{LegendBand}
 use Rattle.bands.specs.PlainRule as bands
-use Rattle.bands.specs.LaneRule.{laneColors}
+use Rattle.band_lanes.specs.LaneRule.{laneColors}
 use Rattle.band_lists.specs.Places.{blankBand}
 use Rattle.banded.specs.EqualBands.{withEqualBands}
 use Rattle.categories.specs.Rule as categories

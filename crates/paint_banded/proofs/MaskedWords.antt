@@ -12,7 +12,7 @@ use Rattle.painting.proofs.Lists.{lanes-list}
 use Rattle.painting.proofs.Masking.{lanes-masked}
 use Rattle.bands.specs.declared.LegendBand.{LegendBand}
 use Rattle.bands.specs.PlainRule.{plainColor}
-use Rattle.bands.specs.LaneRule.{laneColors}
+use Rattle.band_lanes.specs.LaneRule.{laneColors}
 use Rattle.paint_banded.specs.declared.BandedPaint.{BandedPaint}
 use Rattle.paint_banded.specs.Rules.{plainSample, laneChunk}
 

@@ -6,7 +6,7 @@ use Rattle.colormapper.specs.Unmappable.{excluded}
 use Rattle.painting.specs.Masked.{masked, maskedColor}
 use Rattle.bands.specs.declared.LegendBand.{LegendBand}
 use Rattle.bands.specs.PlainRule.{plainColor}
-use Rattle.bands.specs.LaneRule.{laneColors}
+use Rattle.band_lanes.specs.LaneRule.{laneColors}
 use Rattle.paint_banded.specs.declared.BandedPaint.{BandedPaint}
 
 abbrev pub plainSample : List LegendBand → BandedPaint → Float → ℕ

@@ -1,6 +1,6 @@
 // Painting f32 samples by a banded legend, plainly and in lanes (docs/RULES.md, "Painting"). The refusals are the caller's, who has
 // seen to it that at most 64 bands are counted. Bands that are apart are searched by place, others scanned: asked once a raster.
-use bands::Scan;
+use band_lanes::Scan;
 use colormapper::Exclusions;
 use colormapper::UnmappableColors;
 ghost use mathlib.Core.Path.{_≡_};
@@ -82,8 +82,8 @@ fn words4(
     requires { ⌜ p .count ≤ 64 ⌝ }
     ensures { λ d. ⌜ take 4 d ≡ laneChunk (packed (now (starts .entry)) (now (ends .entry)) (now (colors .entry)) (p .count)) p (take 4 v) ⌝ }
 {
-    let scan = bands::scanned(4, starts, ends, colors, p.count, p.unmappable.nodata, v);
-    let c = bands::settled(4, starts, ends, colors, p.count, p.unmappable, v, scan);
+    let scan = band_lanes::scanned(4, starts, ends, colors, p.count, p.unmappable.nodata, v);
+    let c = band_lanes::settled(4, starts, ends, colors, p.count, p.unmappable, v, scan);
     p.exclusions.masked_simd(4, v, p.unmappable.nodata, c)
 }
 
@@ -97,8 +97,8 @@ fn words8(
     requires { ⌜ p .count ≤ 64 ⌝ }
     ensures { λ d. ⌜ take 8 d ≡ laneChunk (packed (now (starts .entry)) (now (ends .entry)) (now (colors .entry)) (p .count)) p (take 8 v) ⌝ }
 {
-    let scan = bands::scanned(8, starts, ends, colors, p.count, p.unmappable.nodata, v);
-    let c = bands::settled(8, starts, ends, colors, p.count, p.unmappable, v, scan);
+    let scan = band_lanes::scanned(8, starts, ends, colors, p.count, p.unmappable.nodata, v);
+    let c = band_lanes::settled(8, starts, ends, colors, p.count, p.unmappable, v, scan);
     p.exclusions.masked_simd(8, v, p.unmappable.nodata, c)
 }
 
@@ -112,8 +112,8 @@ fn words16(
     requires { ⌜ p .count ≤ 64 ⌝ }
     ensures { λ d. ⌜ take 16 d ≡ laneChunk (packed (now (starts .entry)) (now (ends .entry)) (now (colors .entry)) (p .count)) p (take 16 v) ⌝ }
 {
-    let scan = bands::scanned(16, starts, ends, colors, p.count, p.unmappable.nodata, v);
-    let c = bands::settled(16, starts, ends, colors, p.count, p.unmappable, v, scan);
+    let scan = band_lanes::scanned(16, starts, ends, colors, p.count, p.unmappable.nodata, v);
+    let c = band_lanes::settled(16, starts, ends, colors, p.count, p.unmappable, v, scan);
     p.exclusions.masked_simd(16, v, p.unmappable.nodata, c)
 }
 
@@ -137,7 +137,7 @@ fn words4_searched(
         colors: held,
         finished: all,
     };
-    let c = bands::settled(4, starts, ends, colors, p.count, p.unmappable, v, scan);
+    let c = band_lanes::settled(4, starts, ends, colors, p.count, p.unmappable, v, scan);
     p.exclusions.masked_simd(4, v, p.unmappable.nodata, c)
 }
 
@@ -159,7 +159,7 @@ fn words8_searched(
         colors: held,
         finished: all,
     };
-    let c = bands::settled(8, starts, ends, colors, p.count, p.unmappable, v, scan);
+    let c = band_lanes::settled(8, starts, ends, colors, p.count, p.unmappable, v, scan);
     p.exclusions.masked_simd(8, v, p.unmappable.nodata, c)
 }
 
@@ -181,7 +181,7 @@ fn words16_searched(
         colors: held,
         finished: all,
     };
-    let c = bands::settled(16, starts, ends, colors, p.count, p.unmappable, v, scan);
+    let c = band_lanes::settled(16, starts, ends, colors, p.count, p.unmappable, v, scan);
     p.exclusions.masked_simd(16, v, p.unmappable.nodata, c)
 }
 

@@ -17,7 +17,7 @@ use Rattle.linear.specs.Made.{linearColors}
 use Rattle.linear_rule.specs.Rule as linear
 use Rattle.bands.specs.declared.LegendBand.{LegendBand}
 use Rattle.bands.specs.PlainRule as bands
-use Rattle.bands.specs.LaneRule as lanes
+use Rattle.band_lanes.specs.LaneRule as lanes
 use Rattle.bands.specs.Packed.{packed}
 use Rattle.banded.specs.declared.Banded.{Banded}
 use Rattle.banded.specs.Record.{counted}

@@ -6,8 +6,8 @@ use mathlib.Core.Path.{_≡_, refl, ap, _∙_}
 use native.Mathlib.Omega.{arith}
 use lib.Ieee.{lt, le, nan}
 use lib.ListN.{getD}
-use Rattle.bands.proofs.Chunk.{below-more}
-use Rattle.bands.specs.Parts.{allBelow}
+use Rattle.band_lanes.proofs.Chunk.{below-more}
+use Rattle.band_lanes.specs.Parts.{allBelow}
 use Rattle.band_search.proofs.Ascent.{and-and}
 use Rattle.band_search.specs.Place.{heldAt}
 use Rattle.band_search.proofs.all_held.Statement.{statement}

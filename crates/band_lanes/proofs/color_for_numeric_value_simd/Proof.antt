@@ -3,10 +3,10 @@ use Prim.Native.Nat.{ℕ}
 use mathlib.Core.Path.{_≡_, sym, ap, _∙_}
 use lib.ListN.{take}
 use borrow.Author.Needs.{needs}
 use Rattle.bands.specs.Packed.{packed}
-use Rattle.bands.specs.LaneRule.{laneColors}
-use Rattle.bands.proofs.color_for_numeric_value_simd.Statement.{statement}
-use Rattle.bands.proofs.color_for_numeric_value_simd.Tie as tie
+use Rattle.band_lanes.specs.LaneRule.{laneColors}
+use Rattle.band_lanes.proofs.color_for_numeric_value_simd.Statement.{statement}
+use Rattle.band_lanes.proofs.color_for_numeric_value_simd.Tie as tie
 
 scanned-requires : tie.Need-scanned-requires
 scanned-requires c κs = search needs

@@ -5,8 +5,8 @@ use lib.Ieee.{lt, le}
 use lib.Ieee.Fits.{and-i, and-l, and-r}
 use lib.Ieee.Scale.{finite}
 use Rattle.floats.proofs.Order.{lt-le, lt-not-le, lt→le, not-lt, finite-real}
 use Rattle.bands.specs.declared.LegendBand.{LegendBand}
-use Rattle.bands.specs.Sound.{finiteBand, startsBelowEnd, ascends, clears, eachBand, eachAfter, eachNext, firstAndLast, Sound}
+use Rattle.band_lanes.specs.Sound.{finiteBand, startsBelowEnd, ascends, clears, eachBand, eachAfter, eachNext, firstAndLast, Sound}
 
 pub sound-none : Sound []
 unfolding eachBand eachNext firstAndLast

@@ -10,13 +10,13 @@ use lib.Ieee.{Float, nan, isNan}
 use lib.Ieee.Fits.{and-l, and-r}
 use lib.ListN.{length, getD, length-map}
 use Rattle.colormapper.specs.declared.UnmappableColors.{UnmappableColors}
 use Rattle.bands.specs.declared.LegendBand.{LegendBand}
 use Rattle.bands.specs.Band.{holds, lastOf}
 use Rattle.bands.specs.PlainRule.{plainRule, ruleColor, plainColor}
-use Rattle.bands.specs.LaneRule.{Lane, started, over, allInside, edged, scanned, laneColors}
-use Rattle.bands.specs.Sound.{Sound}
-use Rattle.bands.proofs.Entries.{map-same, map-at}
-use Rattle.bands.proofs.SampleLaw.{laneIn, held, edges-law, early-law}
+use Rattle.band_lanes.specs.LaneRule.{Lane, started, over, allInside, edged, scanned, laneColors}
+use Rattle.band_lanes.specs.Sound.{Sound}
+use Rattle.band_lanes.proofs.Entries.{map-same, map-at}
+use Rattle.band_lanes.proofs.SampleLaw.{laneIn, held, edges-law, early-law}
 
 -- ---- a chunk has as many colours as values
 long : (edge : Lane → ℕ) (bs : List LegendBand) (ls : List Lane) → length (scanned edge bs ls) ≡ length ls

@@ -2,9 +2,9 @@
 use Prim.Native.Nat.{_-_}
 use native.Mathlib.Omega.{arith}
 use borrow.Author.Needs.{needs}
-use Rattle.bands.proofs.Chunk.{Scanning, scanning-start, scanning-turn, scanning-finished, scanning-end}
-use Rattle.bands.proofs.scanned.Statement.{statement}
-use Rattle.bands.proofs.scanned.Tie as tie
+use Rattle.band_lanes.proofs.Chunk.{Scanning, scanning-start, scanning-turn, scanning-finished, scanning-end}
+use Rattle.band_lanes.proofs.scanned.Statement.{statement}
+use Rattle.band_lanes.proofs.scanned.Tie as tie
 
 abbrev Inv-loop : tie.InvT-loop
 Inv-loop lanes starts ends colors count nodata value result₀ inside₀ i₀ result inside i = Scanning starts ends colors count nodata lanes value i inside result

@@ -6,12 +6,12 @@ use native.Mathlib.Omega.{arith}
 use lib.ListN.{getD}
 use lib.Ieee.{nan}
 use borrow.Author.Needs.{needs}
 use Rattle.bands.specs.Band.{holds}
-use Rattle.bands.specs.Parts.{allBelow}
-use Rattle.bands.proofs.Updating.{Updating, updating-start, updating-turn, updating-end}
-use Rattle.bands.proofs.Chunk.{below-more}
-use Rattle.bands.proofs.enter.Statement.{statement}
-use Rattle.bands.proofs.enter.Tie as tie
+use Rattle.band_lanes.specs.Parts.{allBelow}
+use Rattle.band_lanes.proofs.Updating.{Updating, updating-start, updating-turn, updating-end}
+use Rattle.band_lanes.proofs.Chunk.{below-more}
+use Rattle.band_lanes.proofs.enter.Statement.{statement}
+use Rattle.band_lanes.proofs.enter.Tie as tie
 
 abbrev Inv-loop : tie.InvT-loop
 Inv-loop lanes band value words₀ inside₀ all₀ i₀ words inside all i = Updating 0 (λ k. cond (holds band (getD value k nan)) (band .color) (getD words₀ k 0)) lanes words₀ i words × Updating false (λ k. getD inside₀ k false || holds band (getD value k nan)) lanes inside₀ i inside × (all ≡ allBelow i (λ k. getD inside₀ k false || holds band (getD value k nan)))

@@ -13,14 +13,14 @@ use Rattle.floats.proofs.Order.{le-le, lt-le, lt-not-le, not-lt, not-le, lt→l
 use Rattle.floats.proofs.Distance.{beyond, before}
 use Rattle.colormapper.specs.declared.UnmappableColors.{UnmappableColors}
 use Rattle.colormapper.specs.Tolerance.{E, within}
 use Rattle.bands.specs.declared.LegendBand.{LegendBand}
 use Rattle.bands.specs.Band.{holds, lastOf}
 use Rattle.bands.specs.PlainRule.{plainColor}
-use Rattle.bands.specs.LaneRule.{edged}
+use Rattle.band_lanes.specs.LaneRule.{edged}
 use Rattle.bands.specs.Parts.{firstColor, edgeColor}
-use Rattle.bands.specs.Sound.{finiteBand, startsBelowEnd, clears, wideBand, eachBand, eachAfter, eachNext, firstAndLast, Sound}
+use Rattle.band_lanes.specs.Sound.{finiteBand, startsBelowEnd, clears, wideBand, eachBand, eachAfter, eachNext, firstAndLast, Sound}
 use Rattle.bands.proofs.Forms.{edge-chain, plain-form}
-use Rattle.bands.proofs.Ordering.{end-start}
+use Rattle.band_lanes.proofs.Ordering.{end-start}
 
 -- the lanes' colour after some bands, each over those before it
 unfoldable pub laneIn : List LegendBand → Float → ℕ → ℕ

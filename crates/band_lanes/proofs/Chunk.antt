@@ -9,13 +9,13 @@ use lib.Ieee.{Float, nan}
 use lib.ListN.{length, getD, take, drop, replicate, getD-replicate}
 use Rattle.lists.specs.Lanes.{Lanes}
 use Rattle.lists.specs.Tabulate.{tabulate}
 use Rattle.bands.specs.declared.LegendBand.{LegendBand}
 use Rattle.bands.specs.Band.{holds}
-use Rattle.bands.specs.LaneRule.{Lane, started, over, allInside, scanned}
+use Rattle.band_lanes.specs.LaneRule.{Lane, started, over, allInside, scanned}
 use Rattle.bands.specs.Packed.{bandAt, packed}
-use Rattle.bands.specs.Parts.{allBelow, Sweep, swept, Scanned}
-use Rattle.bands.proofs.Entries.{same-rule, front, map-rule, map-same}
+use Rattle.band_lanes.specs.Parts.{allBelow, Sweep, swept, Scanned}
+use Rattle.band_lanes.proofs.Entries.{same-rule, front, map-rule, map-same}
 use Rattle.bands.proofs.Forms.{drop-band, drop-end}
 
 -- ---- a test of each number below n
 below-first : (n : ℕ) (f : ℕ → Bool) → (f 0 && allBelow n (λ k. f (suc k))) ≡ allBelow (suc n) f

@@ -1,9 +1,9 @@
 -- `settled` meets its contract: each of its three ways ends as the lane rule does. Assumes nothing.
 use native.Mathlib.Omega.{arith}
 use borrow.Author.Needs.{needs}
-use Rattle.bands.proofs.Settling.{settled-none, settled-finished, settled-edges}
-use Rattle.bands.proofs.settled.Statement.{statement}
-use Rattle.bands.proofs.settled.Tie as tie
+use Rattle.band_lanes.proofs.Settling.{settled-none, settled-finished, settled-edges}
+use Rattle.band_lanes.proofs.settled.Statement.{statement}
+use Rattle.band_lanes.proofs.settled.Tie as tie
 
 returns : tie.Need-returns
 returns c = let a = c .before .before .args in settled-finished (a .starts .now) (a .ends .now) (a .colors .now) (a .count) (a .u) (a .lanes) (a .value) (c .before .before .pre .2) (c .if1 .taken)

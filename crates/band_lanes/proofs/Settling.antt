@@ -13,14 +13,15 @@ use Rattle.lists.specs.Lanes.{Lanes}
 use Rattle.lists.specs.Tabulate.{tabulate}
 use Rattle.lists.proofs.Tabulated.{tabulate-own}
 use Rattle.colormapper.specs.declared.UnmappableColors.{UnmappableColors}
 use Rattle.bands.specs.declared.LegendBand.{LegendBand}
-use Rattle.bands.specs.declared.Scan.{Scan}
-use Rattle.bands.specs.LaneRule.{Lane, started, edged, laneColors}
+use Rattle.band_lanes.specs.declared.Scan.{Scan}
+use Rattle.band_lanes.specs.LaneRule.{Lane, started, edged, laneColors}
 use Rattle.bands.specs.Packed.{bandAt, packed}
-use Rattle.bands.specs.Parts.{laneEdgeColor, Sweep, swept, Scanned}
-use Rattle.bands.proofs.Forms.{drop-end, lane-none, lane-packed}
-use Rattle.bands.proofs.Entries.{front, map-rule}
-use Rattle.bands.proofs.Chunk.{settle, two-steps, values-kept}
+use Rattle.band_lanes.specs.Parts.{laneEdgeColor, Sweep, swept, Scanned}
+use Rattle.bands.proofs.Forms.{drop-end}
+use Rattle.band_lanes.proofs.LaneForms.{lane-none, lane-packed}
+use Rattle.band_lanes.proofs.Entries.{front, map-rule}
+use Rattle.band_lanes.proofs.Chunk.{settle, two-steps, values-kept}
 
 module _ (starts ends : List Float) (colors : List ℕ) (count : ℕ) (u : UnmappableColors) (n : ℕ) (value : List Float) where
   abbrev f : ℕ → LegendBand

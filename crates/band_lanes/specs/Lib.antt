@@ -1,0 +1,3 @@
+pub mod LaneRule
+pub mod Parts
+pub mod Sound

@@ -1,0 +1,171 @@
+// Lists of bands over a chunk of lanes: the colour of each lane (docs/RULES.md, "Banded"). A list comes as in `bands`, with a
+// count of at most 64.
+use bands::LegendBand;
+use colormapper::UnmappableColors;
+ghost use mathlib.Core.Path.{_≡_};
+ghost use mathlib.Core.Bool.{false, cond, _||_};
+ghost use Prim.Native.Nat.{_≤_};
+ghost use lib.Ieee.{nan};
+ghost use lib.ListN.{length, getD, take};
+ghost use Rattle.lists.specs.Lanes.{Lanes};
+ghost use Rattle.bands.specs.Band.{holds};
+ghost use Rattle.bands.specs.Packed.{packed};
+ghost use Rattle.band_lanes.specs.LaneRule.{laneColors};
+ghost use Rattle.band_lanes.specs.Parts.{laneEdgeColor, allBelow, Scanned};
+
+// A chunk after the bands: its colours so far, and whether each lane lies in some band.
+pub struct Scan {
+    pub colors: [u32; 16],
+    pub finished: bool,
+}
+
+// The colours of a chunk. The lane counts of the painters are written out: the phases are vectorised for a lane count that is a
+// literal. A painter may call the two phases itself, with a literal, and spare the call.
+pub fn color_for_numeric_value_simd(
+    lanes: usize,
+    starts: &[f32; 64],
+    ends: &[f32; 64],
+    colors: &[u32; 64],
+    count: usize,
+    u: UnmappableColors,
+    value: [f32; 16],
+) -> [u32; 16]
+    requires { ⌜ (lanes ≤ 16) × (count ≤ 64) ⌝ }
+    ensures { λ r. ⌜ take lanes r ≡ laneColors (packed (now (starts .entry)) (now (ends .entry)) (now (colors .entry)) count) u (take lanes value) ⌝ }
+{
+    if lanes == 4 {
+        let scan = scanned(4, starts, ends, colors, count, u.nodata, value);
+        return settled(4, starts, ends, colors, count, u, value, scan);
+    }
+    if lanes == 8 {
+        let scan = scanned(8, starts, ends, colors, count, u.nodata, value);
+        return settled(8, starts, ends, colors, count, u, value, scan);
+    }
+    if lanes == 16 {
+        let scan = scanned(16, starts, ends, colors, count, u.nodata, value);
+        return settled(16, starts, ends, colors, count, u, value, scan);
+    }
+    let scan = scanned(lanes, starts, ends, colors, count, u.nodata, value);
+    settled(lanes, starts, ends, colors, count, u, value, scan)
+}
+
+// The bands over a chunk, in order, until each lane lies in some band.
+pub fn scanned(
+    lanes: usize,
+    starts: &[f32; 64],
+    ends: &[f32; 64],
+    colors: &[u32; 64],
+    count: usize,
+    nodata: u32,
+    value: [f32; 16],
+) -> Scan
+    requires { ⌜ (lanes ≤ 16) × (count ≤ 64) ⌝ }
+    ensures { λ r. ⌜ Scanned lanes (packed (now (starts .entry)) (now (ends .entry)) (now (colors .entry)) count) nodata value r ⌝ }
+{
+    let mut result = [nodata; 16];
+    let mut inside = [false; 16];
+    let mut i: usize = 0;
+    while i < count {
+        let band = bands::band_at(starts, ends, colors, i);
+        if enter(lanes, band, &value, &mut result, &mut inside) {
+            return Scan {
+                colors: result,
+                finished: true,
+            };
+        }
+        i += 1;
+    }
+    Scan {
+        colors: result,
+        finished: false,
+    }
+}
+
+// A band over the lanes that it holds. Whether each lane now lies in some band.
+fn enter(
+    lanes: usize,
+    band: LegendBand,
+    value: &[f32; 16],
+    words: &mut [u32; 16],
+    inside: &mut [bool; 16],
+) -> bool
+    requires { ⌜ (lanes ≤ 16) × (length (now words) ≡ 16) × (length (now inside) ≡ 16) ⌝ }
+    ensures { λ r. ⌜ (length (now (words .exit)) ≡ 16) × (length (now (inside .exit)) ≡ 16) ⌝ }
+    ensures { λ r. ⌜ Lanes 0 lanes (now (words .exit)) (λ k. cond (holds band (getD (now (value .entry)) k nan)) (band .color) (getD (now (words .entry)) k 0)) ⌝ }
+    ensures { λ r. ⌜ Lanes false lanes (now (inside .exit)) (λ k. getD (now (inside .entry)) k false || holds band (getD (now (value .entry)) k nan)) ⌝ }
+    ensures { λ r. ⌜ r ≡ allBelow lanes (λ k. getD (now (inside .entry)) k false || holds band (getD (now (value .entry)) k nan)) ⌝ }
+{
+    let mut all = true;
+    let mut i: usize = 0;
+    while i < lanes {
+        let held = band.holds(value[i]);
+        words[i] = bands::pick(held, band.color, words[i]);
+        let entered = inside[i] | held;
+        inside[i] = entered;
+        all = all & entered;
+        i += 1;
+    }
+    all
+}
+
+// A chunk that no band finished takes the colours of the edges. The scan is that of the same bands and values.
+pub fn settled(
+    lanes: usize,
+    starts: &[f32; 64],
+    ends: &[f32; 64],
+    colors: &[u32; 64],
+    count: usize,
+    u: UnmappableColors,
+    value: [f32; 16],
+    scan: Scan,
+) -> [u32; 16]
+    requires { ⌜ (lanes ≤ 16) × (count ≤ 64) × Scanned lanes (packed (now starts) (now ends) (now colors) count) (u .nodata) value scan ⌝ }
+    ensures { λ r. ⌜ take lanes r ≡ laneColors (packed (now (starts .entry)) (now (ends .entry)) (now (colors .entry)) count) u (take lanes value) ⌝ }
+{
+    let result = scan.colors;
+    if scan.finished {
+        return result;
+    }
+    if count == 0 {
+        return result;
+    }
+    let first = bands::band_at(starts, ends, colors, 0);
+    let last = bands::band_at(starts, ends, colors, count - 1);
+    lane_edge_colors(lanes, first, last, u, value, result)
+}
+
+// The colour of a lane whose chunk no band finished.
+fn lane_edge_color(
+    first: LegendBand,
+    last: LegendBand,
+    u: UnmappableColors,
+    value: f32,
+    color: u32,
+) -> u32
+    ensures { λ r. ⌜ r ≡ laneEdgeColor first last u value color ⌝ }
+{
+    let x = bands::pick(value < first.start, u.low, color);
+    let y = bands::pick(value > last.end, u.high, x);
+    let z = bands::pick(bands::is_within(first.start, value), first.color, y);
+    bands::pick(bands::is_within(last.end, value), last.color, z)
+}
+
+fn lane_edge_colors(
+    lanes: usize,
+    first: LegendBand,
+    last: LegendBand,
+    u: UnmappableColors,
+    value: [f32; 16],
+    color: [u32; 16],
+) -> [u32; 16]
+    requires { ⌜ lanes ≤ 16 ⌝ }
+    ensures { λ r. ⌜ Lanes 0 lanes r (λ k. laneEdgeColor first last u (getD value k nan) (getD color k 0)) ⌝ }
+{
+    let mut result = [0u32; 16];
+    let mut i: usize = 0;
+    while i < lanes {
+        result[i] = lane_edge_color(first, last, u, value[i], color[i]);
+        i += 1;
+    }
+    result
+}
