@@ -46,7 +46,7 @@ int main(void) {
     const LegendMade linear = legend_create_linear_from_ramp(blues.colors, 0.0f, 30.0f, settings);
     const float raster[8] = {-999.0f, -5.0f, 0.0f, 7.5f, 15.0f, 22.5f, 30.0f, 31.0f};
     uint32_t out[8];
-    if (legend_paint_f32(linear.legend, raster, 8, 1, -999.0f, out, 8).number == LEGEND_DONE) {
+    if (legend_paint_f32(&linear.legend, raster, 8, 1, -999.0f, out, 8).number == LEGEND_DONE) {
         print_words(out, 8);
     }
 
@@ -54,19 +54,19 @@ int main(void) {
     const LegendMade banded = legend_create_banded_from_ramp(4, blues.colors, 0.0f, 200.0f, settings);
     const uint8_t bytes[5] = {0, 49, 50, 201, 100};
     uint32_t scratch[16] = {0};
-    if (legend_paint_lanes_u8(banded.legend, 4, bytes, 5, 0, 0, out, 5, scratch, 16).number == LEGEND_DONE) {
+    if (legend_paint_lanes_u8(&banded.legend, 4, bytes, 5, 0, 0, out, 5, scratch, 16).number == LEGEND_DONE) {
         print_words(out, 5);
     }
 
     /* Categories, and the range of their keys. */
     const int64_t keys[2] = {7, -3};
     const LegendMade categories = legend_create_categoric_for_value_list(ends, 2, keys, 2, settings);
-    printf("%08" PRIx32 "\n", legend_color_for_i16(categories.legend, -3, 0, 0).color);
+    printf("%08" PRIx32 "\n", legend_color_for_i16(&categories.legend, -3, 0, 0).color);
     const LegendValueRange range = legend_total_value_range(categories.legend);
     printf("from %.1f to %.1f\n", range.start, range.end);
 
     /* A refusal has a number, and some an index. Where a painting is refused, its buffers are as they were. */
-    printf("refused %" PRIu32 "\n", legend_paint_f32(linear.legend, raster, 8, 0, 0.0f, out, 7).number);
+    printf("refused %" PRIu32 "\n", legend_paint_f32(&linear.legend, raster, 8, 0, 0.0f, out, 7).number);
     const LegendAnswer refused = hex("#00FG00").answer;
     printf("refused %" PRIu32 " at %zu\n", refused.number, refused.index);
     printf("refused %" PRIu32 "\n", legend_ramp_from_palette(32).answer.number);

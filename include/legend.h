@@ -221,34 +221,133 @@ LegendMade legend_create_categoric_for_value_range_from_ramp(const uint32_t ramp
 /* ---- Uses of a legend ----
  *
  * Each is refused by 100 for a flag of the legend, by 101 for its kind, by 100 for `nodata_given` where there is one,
- * by 16 for a stored count; then as its line says. `nodata` counts where `nodata_given` is 1. */
+ * by 16 for a stored count; then as its line says. `nodata` counts where `nodata_given` is 1.
+ *
+ * Painting and the colour of a sample take a pointer to the legend: its arrays are lent to the library's own calls, the
+ * legend_lent_ ones below, and none is copied. */
+
+/* What is neither an array of a legend nor its bands. */
+typedef struct LegendHead {
+    uint32_t kind;
+    LegendSettings settings;
+    float start; /* linear */
+    float end;
+    size_t count; /* categoric */
+    size_t lookup_count;
+} LegendHead;
+
+static inline LegendHead legend_head(const LegendRecord *legend) {
+    const LegendHead head = {legend->kind,       legend->settings,        legend->linear.start,
+                             legend->linear.end, legend->categoric.count, legend->categoric.lookup_count};
+    return head;
+}
+
+/* A legend as the legend_lent_ calls take it: their first six arguments. */
+#define LEGEND_LENT(legend)                                                                             \
+    legend_head(legend), (legend)->banded, (legend)->linear.cmap, (legend)->categoric.keys,             \
+        (legend)->categoric.colors, (legend)->categoric.lookup
 
 /* The colour of one sample, by the rule of plain painting. */
-LegendColor legend_color_for_f32(LegendRecord legend, float value, uint32_t nodata_given, float nodata);
-LegendColor legend_color_for_u8(LegendRecord legend, uint8_t value, uint32_t nodata_given, uint8_t nodata);
-LegendColor legend_color_for_i16(LegendRecord legend, int16_t value, uint32_t nodata_given, int16_t nodata);
+LegendColor legend_lent_color_for_f32(
+    LegendHead head, LegendBanded banded, const uint32_t cmap[256], const int64_t keys[256],
+    const uint32_t colors[256], const uint32_t lookup[513], float value,
+    uint32_t nodata_given, float nodata);
+LegendColor legend_lent_color_for_u8(
+    LegendHead head, LegendBanded banded, const uint32_t cmap[256], const int64_t keys[256],
+    const uint32_t colors[256], const uint32_t lookup[513], uint8_t value,
+    uint32_t nodata_given, uint8_t nodata);
+LegendColor legend_lent_color_for_i16(
+    LegendHead head, LegendBanded banded, const uint32_t cmap[256], const int64_t keys[256],
+    const uint32_t colors[256], const uint32_t lookup[513], int16_t value,
+    uint32_t nodata_given, int16_t nodata);
+
+static inline LegendColor legend_color_for_f32(const LegendRecord *legend, float value, uint32_t nodata_given,
+                                               float nodata) {
+    return legend_lent_color_for_f32(LEGEND_LENT(legend), value, nodata_given, nodata);
+}
+
+static inline LegendColor legend_color_for_u8(const LegendRecord *legend, uint8_t value, uint32_t nodata_given,
+                                              uint8_t nodata) {
+    return legend_lent_color_for_u8(LEGEND_LENT(legend), value, nodata_given, nodata);
+}
+
+static inline LegendColor legend_color_for_i16(const LegendRecord *legend, int16_t value, uint32_t nodata_given,
+                                               int16_t nodata) {
+    return legend_lent_color_for_i16(LEGEND_LENT(legend), value, nodata_given, nodata);
+}
 
 /* Plain painting: out[i] is the colour of src[i]. Beside a refusal out is as it was. Refused: 13. src and out do not
  * overlap. */
-LegendAnswer legend_paint_f32(LegendRecord legend, const float *src, size_t src_length, uint32_t nodata_given,
-                              float nodata, uint32_t *out, size_t out_length);
-LegendAnswer legend_paint_u8(LegendRecord legend, const uint8_t *src, size_t src_length, uint32_t nodata_given,
-                             uint8_t nodata, uint32_t *out, size_t out_length);
-LegendAnswer legend_paint_i16(LegendRecord legend, const int16_t *src, size_t src_length, uint32_t nodata_given,
-                              int16_t nodata, uint32_t *out, size_t out_length);
+LegendAnswer legend_lent_paint_f32(
+    LegendHead head, LegendBanded banded, const uint32_t cmap[256], const int64_t keys[256],
+    const uint32_t colors[256], const uint32_t lookup[513], const float *src,
+    size_t src_length, uint32_t nodata_given, float nodata, uint32_t *out, size_t out_length);
+LegendAnswer legend_lent_paint_u8(
+    LegendHead head, LegendBanded banded, const uint32_t cmap[256], const int64_t keys[256],
+    const uint32_t colors[256], const uint32_t lookup[513], const uint8_t *src,
+    size_t src_length, uint32_t nodata_given, uint8_t nodata, uint32_t *out, size_t out_length);
+LegendAnswer legend_lent_paint_i16(
+    LegendHead head, LegendBanded banded, const uint32_t cmap[256], const int64_t keys[256],
+    const uint32_t colors[256], const uint32_t lookup[513], const int16_t *src,
+    size_t src_length, uint32_t nodata_given, int16_t nodata, uint32_t *out, size_t out_length);
+
+static inline LegendAnswer legend_paint_f32(const LegendRecord *legend, const float *src, size_t src_length,
+                                            uint32_t nodata_given, float nodata, uint32_t *out, size_t out_length) {
+    return legend_lent_paint_f32(LEGEND_LENT(legend), src, src_length, nodata_given, nodata, out, out_length);
+}
+
+static inline LegendAnswer legend_paint_u8(const LegendRecord *legend, const uint8_t *src, size_t src_length,
+                                           uint32_t nodata_given, uint8_t nodata, uint32_t *out, size_t out_length) {
+    return legend_lent_paint_u8(LEGEND_LENT(legend), src, src_length, nodata_given, nodata, out, out_length);
+}
+
+static inline LegendAnswer legend_paint_i16(const LegendRecord *legend, const int16_t *src, size_t src_length,
+                                            uint32_t nodata_given, int16_t nodata, uint32_t *out, size_t out_length) {
+    return legend_lent_paint_i16(LEGEND_LENT(legend), src, src_length, nodata_given, nodata, out, out_length);
+}
 
 /* Painting in 4, 8 or 16 lanes: whole chunks by the rule of lanes, what is left of the raster plainly. Scratch needs 16
  * words; its first `lanes` words then hold the colours of the last whole chunk, where there was one. Beside a refusal
  * out and scratch are as they were. Refused: 14, 15, 13. src, out and scratch do not overlap. */
-LegendAnswer legend_paint_lanes_f32(LegendRecord legend, size_t lanes, const float *src, size_t src_length,
-                                    uint32_t nodata_given, float nodata, uint32_t *out, size_t out_length,
-                                    uint32_t *scratch, size_t scratch_length);
-LegendAnswer legend_paint_lanes_u8(LegendRecord legend, size_t lanes, const uint8_t *src, size_t src_length,
-                                   uint32_t nodata_given, uint8_t nodata, uint32_t *out, size_t out_length,
-                                   uint32_t *scratch, size_t scratch_length);
-LegendAnswer legend_paint_lanes_i16(LegendRecord legend, size_t lanes, const int16_t *src, size_t src_length,
-                                    uint32_t nodata_given, int16_t nodata, uint32_t *out, size_t out_length,
-                                    uint32_t *scratch, size_t scratch_length);
+LegendAnswer legend_lent_paint_lanes_f32(
+    LegendHead head, LegendBanded banded, const uint32_t cmap[256], const int64_t keys[256],
+    const uint32_t colors[256], const uint32_t lookup[513], size_t lanes,
+    const float *src, size_t src_length, uint32_t nodata_given, float nodata, uint32_t *out, size_t out_length,
+    uint32_t *scratch, size_t scratch_length);
+LegendAnswer legend_lent_paint_lanes_u8(
+    LegendHead head, LegendBanded banded, const uint32_t cmap[256], const int64_t keys[256],
+    const uint32_t colors[256], const uint32_t lookup[513], size_t lanes,
+    const uint8_t *src, size_t src_length, uint32_t nodata_given, uint8_t nodata, uint32_t *out, size_t out_length,
+    uint32_t *scratch, size_t scratch_length);
+LegendAnswer legend_lent_paint_lanes_i16(
+    LegendHead head, LegendBanded banded, const uint32_t cmap[256], const int64_t keys[256],
+    const uint32_t colors[256], const uint32_t lookup[513], size_t lanes,
+    const int16_t *src, size_t src_length, uint32_t nodata_given, int16_t nodata, uint32_t *out, size_t out_length,
+    uint32_t *scratch, size_t scratch_length);
+
+static inline LegendAnswer legend_paint_lanes_f32(const LegendRecord *legend, size_t lanes, const float *src,
+                                                   size_t src_length, uint32_t nodata_given, float nodata,
+                                                   uint32_t *out, size_t out_length, uint32_t *scratch,
+                                                   size_t scratch_length) {
+    return legend_lent_paint_lanes_f32(LEGEND_LENT(legend), lanes, src, src_length, nodata_given, nodata, out,
+                                         out_length, scratch, scratch_length);
+}
+
+static inline LegendAnswer legend_paint_lanes_u8(const LegendRecord *legend, size_t lanes, const uint8_t *src,
+                                                   size_t src_length, uint32_t nodata_given, uint8_t nodata,
+                                                   uint32_t *out, size_t out_length, uint32_t *scratch,
+                                                   size_t scratch_length) {
+    return legend_lent_paint_lanes_u8(LEGEND_LENT(legend), lanes, src, src_length, nodata_given, nodata, out,
+                                         out_length, scratch, scratch_length);
+}
+
+static inline LegendAnswer legend_paint_lanes_i16(const LegendRecord *legend, size_t lanes, const int16_t *src,
+                                                   size_t src_length, uint32_t nodata_given, int16_t nodata,
+                                                   uint32_t *out, size_t out_length, uint32_t *scratch,
+                                                   size_t scratch_length) {
+    return legend_lent_paint_lanes_i16(LEGEND_LENT(legend), lanes, src, src_length, nodata_given, nodata, out,
+                                         out_length, scratch, scratch_length);
+}
 
 /* The whole range of a legend's values, 0 and 0 beside a refusal, and where there are none. */
 typedef struct LegendValueRange {

@@ -1,5 +1,3 @@
 -- What the proofs of this crate share.
-mod Blocked
-mod Calls
+mod Lending
 mod Listing
-mod Splits

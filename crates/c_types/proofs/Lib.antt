@@ -1,3 +1,2 @@
--- The laws that other crates cite, and what the proofs of this crate share.
-pub mod ThereAndBack
-mod Known
+-- The laws that other crates cite.
+pub mod Known

@@ -5,7 +5,6 @@ use lib.Dec.{ltb}
 use Rattle.c_types.specs.declared.forms.Form.{Form}
 use Rattle.c_types.specs.declared.forms.Form.the-variants.{Sound, Refused}
 use Rattle.c_types.specs.declared.settings.LegendSettings.{LegendSettings}
-use Rattle.c_types.specs.declared.record.LegendRecord.{LegendRecord}
 
 abbrev pub settingsFlags : LegendSettings → Bool
 settingsFlags s = (ltb (s .«has_low») 2 && ltb (s .«has_high») 2) && ltb (s .«zero_is_nodata») 2
@@ -20,9 +19,9 @@ andThen Sound rest = rest
 andThen (Refused n) rest = Refused n
 
 -- a legend: its flags, then its kind
-unfoldable pub recordForm : LegendRecord → Form
-recordForm r = andThen (settingsForm (r .settings)) (cond (ltb 2 (r .kind)) (Refused 101) Sound)
+unfoldable pub legendForm : LegendSettings → (kind : ℕ) → Form
+legendForm s kind = andThen (settingsForm s) (cond (ltb 2 kind) (Refused 101) Sound)
 
 -- a legend, then the flag of a nodata value
-unfoldable pub useForm : LegendRecord → (given : ℕ) → Form
-useForm r given = andThen (recordForm r) (cond (ltb 1 given) (Refused 100) Sound)
+unfoldable pub useForm : LegendSettings → (kind given : ℕ) → Form
+useForm s kind given = andThen (legendForm s kind) (cond (ltb 1 given) (Refused 100) Sound)

@@ -1,9 +1,4 @@
 pub mod Answers
-pub mod Colors
 pub mod Forms
-pub mod Keys
-pub mod Ramps
-pub mod Records
 pub mod Samples
 pub mod Settings
-pub mod Uses

@@ -1,9 +1,8 @@
 // What the interface says to a call's own arguments, before any refusal of the table: 100 for a flag that is neither 0
 // nor 1, 101 for a kind that is none of 0, 1, 2. Rust's types rule these out, C's do not.
-use crate::record::LegendRecord;
 use crate::settings::LegendSettings;
 ghost use mathlib.Core.Path.{_≡_};
-ghost use Rattle.c_types.specs.Forms.{settingsFlags, settingsForm, recordForm, useForm};
+ghost use Rattle.c_types.specs.Forms.{settingsFlags, settingsForm, legendForm, useForm};
 
 pub enum Form {
     Sound,
@@ -27,24 +26,24 @@ pub fn settings_form(settings: LegendSettings) -> Form
 }
 
 // A legend: its flags, then its kind.
-pub fn record_form(stored: LegendRecord) -> Form
-    ensures { λ r. ⌜ r ≡ recordForm stored ⌝ }
+pub fn legend_form(settings: LegendSettings, kind: u32) -> Form
+    ensures { λ r. ⌜ r ≡ legendForm settings kind ⌝ }
 {
-    let form = settings_form(stored.settings);
+    let form = settings_form(settings);
     if let Form::Refused(_) = form {
         return form;
     }
-    if 2 < stored.kind {
+    if 2 < kind {
         return Form::Refused(101);
     }
     form
 }
 
 // A legend and the flag of a nodata value.
-pub fn use_form(stored: LegendRecord, given: u32) -> Form
-    ensures { λ r. ⌜ r ≡ useForm stored given ⌝ }
+pub fn use_form(settings: LegendSettings, kind: u32, given: u32) -> Form
+    ensures { λ r. ⌜ r ≡ useForm settings kind given ⌝ }
 {
-    let form = record_form(stored);
+    let form = legend_form(settings, kind);
     if let Form::Refused(_) = form {
         return form;
     }

@@ -1,10 +1,6 @@
-// The `repr(C)` structs that C alone needs (include/legend.h), and the turns between them and the library's own types.
+// What all calls from C share (include/legend.h): answers, settings, flags, nodata values, as `repr(C)` structs and numbers, and the turns
+// between them and the library's own types.
 pub mod answer;
-pub mod colors;
 pub mod forms;
-pub mod keys;
-pub mod ramps;
-pub mod record;
 pub mod samples;
 pub mod settings;
-pub mod uses;

@@ -23,7 +23,7 @@ ghost use Rattle.banded.specs.EqualBands.{withEqualBands};
 ghost use Rattle.banded.specs.ManualRanges.{withManualRanges};
 ghost use Rattle.catgegoric.specs.Made.{forValues, forValuesFromRamp, forValueRange, forValueRangeFromRamp};
 ghost use Rattle.key_lists.specs.Keys.{keysRefusal};
-ghost use Rattle.legend.specs.Record.{linearLegend, bandedLegend, categoricLegend, emptyLegend, storedRefusal, simdSupported};
+ghost use Rattle.legend.specs.Record.{linearLegend, bandedLegend, categoricLegend, emptyLegend, storedRefusal};
 ghost use Rattle.legend.specs.Building.{madeLinear, madeBanded, madeCategoric};
 ghost use Rattle.legend.specs.ValueRanges.{bandsRange, keysRange, keysIn, rangeIn, rangeRefusal, totalValueRange};
 
@@ -112,19 +112,6 @@ impl Legend {
             LegendKind::CategoricNumeric => {
                 catgegoric::categoric_refusal(categoric.count, categoric.lookup_count)
             }
-        }
-    }
-
-    // Whether lanes have a rule of their own.
-    pub fn simd_supported(self) -> bool
-        ensures { λ r. ⌜ r ≡ simdSupported self ⌝ }
-    {
-        let categoric = self.categoric;
-        let kind = self.kind;
-        match kind {
-            LegendKind::Linear => true,
-            LegendKind::Banded => true,
-            LegendKind::CategoricNumeric => 0 < categoric.lookup_count,
         }
     }
 }

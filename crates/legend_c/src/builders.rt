@@ -3,9 +3,9 @@ use band_lists::ValueRanges;
 use banded::Banded;
 use banded::MadeBanded;
 use bands::LegendBand;
+use c_records::record;
+use c_records::record::LegendMade;
 use c_types::forms;
-use c_types::record;
-use c_types::record::LegendMade;
 use c_types::settings;
 use c_types::settings::LegendSettings;
 use colormap::ProcessedColorMap;
@@ -19,7 +19,7 @@ ghost use Rattle.catgegoric.specs.Made.{forValues, forValuesFromRamp, forValueR
 ghost use Rattle.legend.specs.Building.{madeLinear, madeBanded, madeCategoric};
 ghost use Rattle.c_types.specs.Settings.{settingsOf};
 ghost use Rattle.c_types.specs.Forms.{settingsForm};
-ghost use Rattle.c_types.specs.Records.{madeUnless};
+ghost use Rattle.c_records.specs.Records.{madeUnless};
 
 #[no_mangle]
 pub extern "C" fn legend_create_linear(

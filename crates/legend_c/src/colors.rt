@@ -1,12 +1,12 @@
 // Hex text and palettes.
-use c_types::colors;
-use c_types::colors::LegendColor;
-use c_types::colors::LegendPalette;
+use c_answers::colors;
+use c_answers::colors::LegendColor;
+use c_answers::colors::LegendPalette;
 use color::Color;
 ghost use mathlib.Core.Path.{_≡_};
 ghost use Rattle.color.specs.Hex.{hexColor};
 ghost use Rattle.palettes.specs.Asked.{paletteOf};
-ghost use Rattle.c_types.specs.Colors.{colorAnswer, paletteAnswer};
+ghost use Rattle.c_answers.specs.Colors.{colorAnswer, paletteAnswer};
 
 // The colour of `#RRGGBB` or `#RRGGBBAA`.
 #[no_mangle]

@@ -1,9 +1,9 @@
 // A sample as a key.
-use c_types::keys;
-use c_types::keys::LegendKey;
+use c_answers::keys;
+use c_answers::keys::LegendKey;
 ghost use mathlib.Core.Path.{_≡_};
 ghost use Rattle.cast.specs.Truncated.{truncated};
-ghost use Rattle.c_types.specs.Keys.{keyOf};
+ghost use Rattle.c_answers.specs.Keys.{keyOf};
 
 // The key of a sample.
 #[no_mangle]

@@ -1,10 +1,10 @@
 // Ramps, and looking a fraction up in one.
-use c_types::ramps;
-use c_types::ramps::LegendRamp;
+use c_answers::ramps;
+use c_answers::ramps::LegendRamp;
 ghost use mathlib.Core.Path.{_≡_};
 ghost use Rattle.colormap.specs.Made.{rampOfList, rampOfPreset};
 ghost use Rattle.lookup.specs.Entries.{plainEntry, laneEntry, entryColor};
-ghost use Rattle.c_types.specs.Ramps.{rampAnswer};
+ghost use Rattle.c_answers.specs.Ramps.{rampAnswer};
 
 // A list of colours spread over a ramp.
 #[no_mangle]

@@ -1,92 +1,133 @@
 // What else a legend is used for: the colour of a sample, the whole range of its values, the list of its colours.
-use c_types::colors::LegendColor;
+use banded::Banded;
+use c_answers::colors::LegendColor;
+use c_answers::uses;
+use c_answers::uses::LegendColorList;
+use c_answers::uses::LegendValueRange;
+use c_records::head;
+use c_records::head::LegendHead;
+use c_records::record;
+use c_records::record::LegendRecord;
 use c_types::forms;
-use c_types::record;
-use c_types::record::LegendRecord;
 use c_types::samples;
-use c_types::uses;
-use c_types::uses::LegendColorList;
-use c_types::uses::LegendValueRange;
 ghost use mathlib.Core.Path.{_≡_};
 ghost use Rattle.cast.specs.Samples.{ofU8, ofI16};
 ghost use Rattle.cast.specs.Nodata.{nodataU8, nodataI16};
 ghost use Rattle.legend.specs.ValueRanges.{totalValueRange};
-ghost use Rattle.apply.specs.Values.{colorForValue};
+ghost use Rattle.apply_lent.specs.Values.{colorForValue};
 ghost use Rattle.apply.specs.ColorLists.{colorList};
-ghost use Rattle.c_types.specs.Forms.{recordForm, useForm};
-ghost use Rattle.c_types.specs.Records.{legendOf};
+ghost use Rattle.c_types.specs.Forms.{legendForm, useForm};
+ghost use Rattle.legend_head.specs.Lent.{lentLegend};
+ghost use Rattle.c_records.specs.Heads.{headGiven};
+ghost use Rattle.c_records.specs.Records.{legendOf};
 ghost use Rattle.c_types.specs.Samples.{nodataIf, nodataIfU8, nodataIfI16};
-ghost use Rattle.c_types.specs.Uses.{pixelUnless, rangeUnless, listUnless};
+ghost use Rattle.c_answers.specs.Uses.{pixelUnless, rangeUnless, listUnless};
 
-// ---- the colour of a sample
+// ---- the colour of a sample, by a legend whose arrays are lent
 
 #[no_mangle]
-pub extern "C" fn legend_color_for_f32(
-    legend: LegendRecord,
+pub extern "C" fn legend_lent_color_for_f32(
+    head: LegendHead,
+    banded: Banded,
+    cmap: &[u32; 256],
+    keys: &[i64; 256],
+    colors: &[u32; 256],
+    lookup: &[u32; 513],
     value: f32,
     nodata_given: u32,
     nodata: f32,
 ) -> LegendColor
-    ensures { λ r. ⌜ r ≡ pixelUnless (useForm legend «nodata_given») (colorForValue (legendOf legend) (nodataIf «nodata_given» nodata) value) ⌝ }
+    ensures { λ r. ⌜ r ≡ pixelUnless (useForm (head .settings) (head .kind) «nodata_given») (colorForValue (lentLegend (headGiven head banded) (now (cmap .entry)) (now (keys .entry)) (now (colors .entry)) (now (lookup .entry))) (nodataIf «nodata_given» nodata) value) ⌝ }
 {
-    let pixel = apply::color_for_value(
-        record::legend_of(legend),
+    let pixel = apply_lent::color_for_value(
+        head::head_given(head, banded),
+        cmap,
+        keys,
+        colors,
+        lookup,
         value,
         samples::nodata_if(nodata_given, nodata),
     );
-    uses::pixel_unless(forms::use_form(legend, nodata_given), pixel)
+    uses::pixel_unless(
+        forms::use_form(head.settings, head.kind, nodata_given),
+        pixel,
+    )
 }
 
 #[no_mangle]
-pub extern "C" fn legend_color_for_u8(
-    legend: LegendRecord,
+pub extern "C" fn legend_lent_color_for_u8(
+    head: LegendHead,
+    banded: Banded,
+    cmap: &[u32; 256],
+    keys: &[i64; 256],
+    colors: &[u32; 256],
+    lookup: &[u32; 513],
     value: u8,
     nodata_given: u32,
     nodata: u8,
 ) -> LegendColor
-    ensures { λ r. ⌜ r ≡ pixelUnless (useForm legend «nodata_given») (colorForValue (legendOf legend) (nodataU8 (nodataIfU8 «nodata_given» nodata)) (ofU8 value)) ⌝ }
+    ensures { λ r. ⌜ r ≡ pixelUnless (useForm (head .settings) (head .kind) «nodata_given») (colorForValue (lentLegend (headGiven head banded) (now (cmap .entry)) (now (keys .entry)) (now (colors .entry)) (now (lookup .entry))) (nodataU8 (nodataIfU8 «nodata_given» nodata)) (ofU8 value)) ⌝ }
 {
-    let pixel = apply::color_for_value_u8(
-        record::legend_of(legend),
+    let pixel = apply_lent::color_for_value_u8(
+        head::head_given(head, banded),
+        cmap,
+        keys,
+        colors,
+        lookup,
         value,
         samples::nodata_if_u8(nodata_given, nodata),
     );
-    uses::pixel_unless(forms::use_form(legend, nodata_given), pixel)
+    uses::pixel_unless(
+        forms::use_form(head.settings, head.kind, nodata_given),
+        pixel,
+    )
 }
 
 #[no_mangle]
-pub extern "C" fn legend_color_for_i16(
-    legend: LegendRecord,
+pub extern "C" fn legend_lent_color_for_i16(
+    head: LegendHead,
+    banded: Banded,
+    cmap: &[u32; 256],
+    keys: &[i64; 256],
+    colors: &[u32; 256],
+    lookup: &[u32; 513],
     value: i16,
     nodata_given: u32,
     nodata: i16,
 ) -> LegendColor
-    ensures { λ r. ⌜ r ≡ pixelUnless (useForm legend «nodata_given») (colorForValue (legendOf legend) (nodataI16 (nodataIfI16 «nodata_given» nodata)) (ofI16 value)) ⌝ }
+    ensures { λ r. ⌜ r ≡ pixelUnless (useForm (head .settings) (head .kind) «nodata_given») (colorForValue (lentLegend (headGiven head banded) (now (cmap .entry)) (now (keys .entry)) (now (colors .entry)) (now (lookup .entry))) (nodataI16 (nodataIfI16 «nodata_given» nodata)) (ofI16 value)) ⌝ }
 {
-    let pixel = apply::color_for_value_i16(
-        record::legend_of(legend),
+    let pixel = apply_lent::color_for_value_i16(
+        head::head_given(head, banded),
+        cmap,
+        keys,
+        colors,
+        lookup,
         value,
         samples::nodata_if_i16(nodata_given, nodata),
     );
-    uses::pixel_unless(forms::use_form(legend, nodata_given), pixel)
+    uses::pixel_unless(
+        forms::use_form(head.settings, head.kind, nodata_given),
+        pixel,
+    )
 }
 
 // ---- the whole range of values
 
 #[no_mangle]
 pub extern "C" fn legend_total_value_range(legend: LegendRecord) -> LegendValueRange
-    ensures { λ r. ⌜ r ≡ rangeUnless (recordForm legend) (totalValueRange (legendOf legend)) ⌝ }
+    ensures { λ r. ⌜ r ≡ rangeUnless (legendForm (legend .settings) (legend .kind)) (totalValueRange (legendOf legend)) ⌝ }
 {
     let range = legend::total_value_range(record::legend_of(legend));
-    uses::range_unless(forms::record_form(legend), range)
+    uses::range_unless(forms::legend_form(legend.settings, legend.kind), range)
 }
 
 // ---- the list of colours
 
 #[no_mangle]
 pub extern "C" fn legend_color_list(legend: LegendRecord) -> LegendColorList
-    ensures { λ r. ⌜ r ≡ listUnless (recordForm legend) (colorList (legendOf legend)) ⌝ }
+    ensures { λ r. ⌜ r ≡ listUnless (legendForm (legend .settings) (legend .kind)) (colorList (legendOf legend)) ⌝ }
 {
     let list = apply::color_list(record::legend_of(legend));
-    uses::list_unless(forms::record_form(legend), list)
+    uses::list_unless(forms::legend_form(legend.settings, legend.kind), list)
 }

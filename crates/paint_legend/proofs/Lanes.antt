@@ -1,5 +1,5 @@
 -- Plain painting and lane painting as one: a lane count of 0 stands for plain painting. Assumes nothing.
-use mathlib.Core.Path.{_≡_, refl, sym, ap, _∙_}
+use mathlib.Core.Path.{_≡_, refl, sym, ap, ap₂, _∙_}
 use mathlib.Core.Bool.{Bool, true, false, cond, _||_, true≢false}
 use mathlib.Core.List.{List}
 use Prim.Native.Nat.{ℕ, zero, suc}
@@ -48,3 +48,11 @@ pub painted-without : (p : Painter) (lanes : ℕ) (xs : List Float) → p .simd 
 unfolding painted
 painted-without p zero xs e = refl
 painted-without p (suc l) xs e = sym (ap (λ (b : Bool). cond b (lanePainted (suc l) (p .chunk) (p .plain) xs) (plainPainted (p .plain) xs)) e)
+
+-- by a rule for a sample and one for a chunk that are the painter's
+pub painted-plainly : (p : Painter) (lanes : ℕ) (xs : List Float) {f : Float → ℕ} → f ≡ p .plain → lanes ≡ 0 → plainPainted f xs ≡ painted p lanes xs
+painted-plainly p lanes xs e z = ap (λ (f : Float → ℕ). plainPainted f xs) e ∙ painted-plain p lanes xs z
+
+pub painted-in-lanes : (p : Painter) (lanes : ℕ) (xs : List Float) {k : List Float → List ℕ} {f : Float → ℕ}
+    → k ≡ p .chunk → f ≡ p .plain → p .simd ≡ true → (lanes ≡ 0 → ⊥) → lanePainted lanes k f xs ≡ painted p lanes xs
+painted-in-lanes p lanes xs g e simd n = ap₂ (λ (k : List Float → List ℕ) (f : Float → ℕ). lanePainted lanes k f xs) g e ∙ painted-simd p lanes xs n simd

@@ -2,7 +2,7 @@
 use crate::build;
 use crate::place;
 use crate::row;
-use apply::PixelColor;
+use apply_lent::PixelColor;
 use cast::Nodata;
 use cast::NodataI16;
 use cast::NodataU8;

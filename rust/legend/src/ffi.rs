@@ -1,5 +1,5 @@
-//! The calls of the library as they are: flat structs by value, as `include/legend.h` has them. Each is safe for every
-//! argument of its types. The rest of the crate says the same in Rust's own words.
+//! The calls of the library as they are: flat structs, as `include/legend.h` has them. Each is safe for every argument of
+//! its types. The rest of the crate says the same in Rust's own words.
 
 use crate::Color;
 
@@ -143,6 +143,24 @@ pub struct LegendRecord {
     pub categoric: LegendCategoric,
 }
 
+/// What is neither an array of a legend nor its bands: those are lent and passed beside it.
+#[derive(Debug, Clone, Copy, PartialEq)]
+#[repr(C)]
+pub struct LegendHead {
+    /// The kind.
+    pub kind: u32,
+    /// The settings.
+    pub settings: LegendSettings,
+    /// Where a linear legend's ramp starts.
+    pub start: f32,
+    /// Where it ends.
+    pub end: f32,
+    /// How many keys a categoric legend has.
+    pub count: usize,
+    /// How many words its table has.
+    pub lookup_count: usize,
+}
+
 /// A legend that was asked for: the empty one beside a refusal.
 #[derive(Debug, Clone, Copy, PartialEq)]
 #[repr(C)]
@@ -245,6 +263,19 @@ impl LegendRecord {
         banded: LegendBanded::EMPTY,
         categoric: LegendCategoric::EMPTY,
     };
+
+    /// The legend without its arrays and bands.
+    #[inline]
+    pub const fn head(&self) -> LegendHead {
+        LegendHead {
+            kind: self.kind,
+            settings: self.settings,
+            start: self.linear.start,
+            end: self.linear.end,
+            count: self.categoric.count,
+            lookup_count: self.categoric.lookup_count,
+        }
+    }
 }
 
 impl LegendRanges {
@@ -338,11 +369,46 @@ unsafe extern "C" {
         end: i64,
         settings: LegendSettings,
     ) -> LegendMade;
-    fn legend_color_for_f32(legend: LegendRecord, value: f32, nodata_given: u32, nodata: f32) -> LegendColor;
-    fn legend_color_for_u8(legend: LegendRecord, value: u8, nodata_given: u32, nodata: u8) -> LegendColor;
-    fn legend_color_for_i16(legend: LegendRecord, value: i16, nodata_given: u32, nodata: i16) -> LegendColor;
-    fn legend_paint_f32(
-        legend: LegendRecord,
+    fn legend_lent_color_for_f32(
+        head: LegendHead,
+        banded: LegendBanded,
+        cmap: *const [Color; 256],
+        keys: *const [i64; 256],
+        colors: *const [Color; 256],
+        lookup: *const [Color; 513],
+        value: f32,
+        nodata_given: u32,
+        nodata: f32,
+    ) -> LegendColor;
+    fn legend_lent_color_for_u8(
+        head: LegendHead,
+        banded: LegendBanded,
+        cmap: *const [Color; 256],
+        keys: *const [i64; 256],
+        colors: *const [Color; 256],
+        lookup: *const [Color; 513],
+        value: u8,
+        nodata_given: u32,
+        nodata: u8,
+    ) -> LegendColor;
+    fn legend_lent_color_for_i16(
+        head: LegendHead,
+        banded: LegendBanded,
+        cmap: *const [Color; 256],
+        keys: *const [i64; 256],
+        colors: *const [Color; 256],
+        lookup: *const [Color; 513],
+        value: i16,
+        nodata_given: u32,
+        nodata: i16,
+    ) -> LegendColor;
+    fn legend_lent_paint_f32(
+        head: LegendHead,
+        banded: LegendBanded,
+        cmap: *const [Color; 256],
+        keys: *const [i64; 256],
+        colors: *const [Color; 256],
+        lookup: *const [Color; 513],
         src: *const f32,
         src_length: usize,
         nodata_given: u32,
@@ -350,8 +416,13 @@ unsafe extern "C" {
         out: *mut Color,
         out_length: usize,
     ) -> LegendAnswer;
-    fn legend_paint_u8(
-        legend: LegendRecord,
+    fn legend_lent_paint_u8(
+        head: LegendHead,
+        banded: LegendBanded,
+        cmap: *const [Color; 256],
+        keys: *const [i64; 256],
+        colors: *const [Color; 256],
+        lookup: *const [Color; 513],
         src: *const u8,
         src_length: usize,
         nodata_given: u32,
@@ -359,8 +430,13 @@ unsafe extern "C" {
         out: *mut Color,
         out_length: usize,
     ) -> LegendAnswer;
-    fn legend_paint_i16(
-        legend: LegendRecord,
+    fn legend_lent_paint_i16(
+        head: LegendHead,
+        banded: LegendBanded,
+        cmap: *const [Color; 256],
+        keys: *const [i64; 256],
+        colors: *const [Color; 256],
+        lookup: *const [Color; 513],
         src: *const i16,
         src_length: usize,
         nodata_given: u32,
@@ -368,8 +444,13 @@ unsafe extern "C" {
         out: *mut Color,
         out_length: usize,
     ) -> LegendAnswer;
-    fn legend_paint_lanes_f32(
-        legend: LegendRecord,
+    fn legend_lent_paint_lanes_f32(
+        head: LegendHead,
+        banded: LegendBanded,
+        cmap: *const [Color; 256],
+        keys: *const [i64; 256],
+        colors: *const [Color; 256],
+        lookup: *const [Color; 513],
         lanes: usize,
         src: *const f32,
         src_length: usize,
@@ -380,8 +461,13 @@ unsafe extern "C" {
         scratch: *mut Color,
         scratch_length: usize,
     ) -> LegendAnswer;
-    fn legend_paint_lanes_u8(
-        legend: LegendRecord,
+    fn legend_lent_paint_lanes_u8(
+        head: LegendHead,
+        banded: LegendBanded,
+        cmap: *const [Color; 256],
+        keys: *const [i64; 256],
+        colors: *const [Color; 256],
+        lookup: *const [Color; 513],
         lanes: usize,
         src: *const u8,
         src_length: usize,
@@ -392,8 +478,13 @@ unsafe extern "C" {
         scratch: *mut Color,
         scratch_length: usize,
     ) -> LegendAnswer;
-    fn legend_paint_lanes_i16(
-        legend: LegendRecord,
+    fn legend_lent_paint_lanes_i16(
+        head: LegendHead,
+        banded: LegendBanded,
+        cmap: *const [Color; 256],
+        keys: *const [i64; 256],
+        colors: *const [Color; 256],
+        lookup: *const [Color; 513],
         lanes: usize,
         src: *const i16,
         src_length: usize,
@@ -546,140 +637,87 @@ pub fn create_categoric_for_value_range_from_ramp(
     unsafe { legend_create_categoric_for_value_range_from_ramp(ramp, start, end, settings) }
 }
 
-/// The colour of an f32 sample.
-pub fn color_for_f32(legend: &LegendRecord, value: f32, nodata_given: u32, nodata: f32) -> LegendColor {
-    // SAFETY: the call takes and gives plain values, and its contract asks nothing of them.
-    unsafe { legend_color_for_f32(*legend, value, nodata_given, nodata) }
-}
-
-/// The colour of a u8 sample.
-pub fn color_for_u8(legend: &LegendRecord, value: u8, nodata_given: u32, nodata: u8) -> LegendColor {
-    // SAFETY: the call takes and gives plain values, and its contract asks nothing of them.
-    unsafe { legend_color_for_u8(*legend, value, nodata_given, nodata) }
-}
-
-/// The colour of an i16 sample.
-pub fn color_for_i16(legend: &LegendRecord, value: i16, nodata_given: u32, nodata: i16) -> LegendColor {
-    // SAFETY: the call takes and gives plain values, and its contract asks nothing of them.
-    unsafe { legend_color_for_i16(*legend, value, nodata_given, nodata) }
-}
-
-/// Paints an f32 raster sample by sample.
-pub fn paint_f32(
-    legend: &LegendRecord,
-    src: &[f32],
-    nodata_given: u32,
-    nodata: f32,
-    out: &mut [Color],
-) -> LegendAnswer {
-    // SAFETY: each pointer and the length beside it are one slice's; those written through are borrowed alone, and the
-    // call keeps none.
-    unsafe { legend_paint_f32(*legend, src.as_ptr(), src.len(), nodata_given, nodata, out.as_mut_ptr(), out.len()) }
-}
-
-/// Paints a u8 raster sample by sample.
-pub fn paint_u8(legend: &LegendRecord, src: &[u8], nodata_given: u32, nodata: u8, out: &mut [Color]) -> LegendAnswer {
-    // SAFETY: each pointer and the length beside it are one slice's; those written through are borrowed alone, and the
-    // call keeps none.
-    unsafe { legend_paint_u8(*legend, src.as_ptr(), src.len(), nodata_given, nodata, out.as_mut_ptr(), out.len()) }
-}
-
-/// Paints an i16 raster sample by sample.
-pub fn paint_i16(
-    legend: &LegendRecord,
-    src: &[i16],
-    nodata_given: u32,
-    nodata: i16,
-    out: &mut [Color],
-) -> LegendAnswer {
-    // SAFETY: each pointer and the length beside it are one slice's; those written through are borrowed alone, and the
-    // call keeps none.
-    unsafe { legend_paint_i16(*legend, src.as_ptr(), src.len(), nodata_given, nodata, out.as_mut_ptr(), out.len()) }
-}
-
-/// Paints an f32 raster in lanes.
-pub fn paint_lanes_f32(
-    legend: &LegendRecord,
-    lanes: usize,
-    src: &[f32],
-    nodata_given: u32,
-    nodata: f32,
-    out: &mut [Color],
-    scratch: &mut [Color],
-) -> LegendAnswer {
-    // SAFETY: each pointer and the length beside it are one slice's; those written through are borrowed alone, and the
-    // call keeps none.
-    unsafe {
-        legend_paint_lanes_f32(
-            *legend,
-            lanes,
-            src.as_ptr(),
-            src.len(),
-            nodata_given,
-            nodata,
-            out.as_mut_ptr(),
-            out.len(),
-            scratch.as_mut_ptr(),
-            scratch.len(),
+/// A call with a legend lent: its head and its bands by value, its arrays by reference.
+macro_rules! lent {
+    ($call:ident($legend:ident, $($argument:expr),*)) => {
+        $call(
+            $legend.head(),
+            $legend.banded,
+            &$legend.linear.cmap,
+            &$legend.categoric.keys,
+            &$legend.categoric.colors,
+            &$legend.categoric.lookup,
+            $($argument),*
         )
-    }
+    };
 }
 
-/// Paints a u8 raster in lanes.
-pub fn paint_lanes_u8(
-    legend: &LegendRecord,
-    lanes: usize,
-    src: &[u8],
-    nodata_given: u32,
-    nodata: u8,
-    out: &mut [Color],
-    scratch: &mut [Color],
-) -> LegendAnswer {
-    // SAFETY: each pointer and the length beside it are one slice's; those written through are borrowed alone, and the
-    // call keeps none.
-    unsafe {
-        legend_paint_lanes_u8(
-            *legend,
-            lanes,
-            src.as_ptr(),
-            src.len(),
-            nodata_given,
-            nodata,
-            out.as_mut_ptr(),
-            out.len(),
-            scratch.as_mut_ptr(),
-            scratch.len(),
-        )
-    }
+/// The three calls for a type of sample.
+macro_rules! sample_calls {
+    ($type:ty, $color:ident by $lent_color:ident, $paint:ident by $lent_paint:ident, $lanes:ident by $lent_lanes:ident) => {
+        /// The colour of a sample of this type.
+        #[inline]
+        pub fn $color(legend: &LegendRecord, value: $type, nodata_given: u32, nodata: $type) -> LegendColor {
+            // SAFETY: the references are to the arrays that the call reads, and it keeps none.
+            unsafe { lent!($lent_color(legend, value, nodata_given, nodata)) }
+        }
+
+        /// Paints a raster of this type sample by sample.
+        #[inline]
+        pub fn $paint(
+            legend: &LegendRecord,
+            src: &[$type],
+            nodata_given: u32,
+            nodata: $type,
+            out: &mut [Color],
+        ) -> LegendAnswer {
+            let (pixels, room) = (src.len(), out.len());
+            // SAFETY: each pointer and the length beside it are one slice's, and the references are to the arrays that
+            // the call reads; what is written through is borrowed alone, and the call keeps none.
+            unsafe {
+                lent!($lent_paint(legend, src.as_ptr(), pixels, nodata_given, nodata, out.as_mut_ptr(), room))
+            }
+        }
+
+        /// Paints a raster of this type in lanes.
+        #[inline]
+        pub fn $lanes(
+            legend: &LegendRecord,
+            lanes: usize,
+            src: &[$type],
+            nodata_given: u32,
+            nodata: $type,
+            out: &mut [Color],
+            scratch: &mut [Color],
+        ) -> LegendAnswer {
+            let (pixels, room, words) = (src.len(), out.len(), scratch.len());
+            let (src, out, scratch) = (src.as_ptr(), out.as_mut_ptr(), scratch.as_mut_ptr());
+            // SAFETY: as for plain painting; `out` and `scratch` are borrowed alone, so they do not overlap.
+            unsafe {
+                lent!($lent_lanes(legend, lanes, src, pixels, nodata_given, nodata, out, room, scratch, words))
+            }
+        }
+    };
 }
 
-/// Paints an i16 raster in lanes.
-pub fn paint_lanes_i16(
-    legend: &LegendRecord,
-    lanes: usize,
-    src: &[i16],
-    nodata_given: u32,
-    nodata: i16,
-    out: &mut [Color],
-    scratch: &mut [Color],
-) -> LegendAnswer {
-    // SAFETY: each pointer and the length beside it are one slice's; those written through are borrowed alone, and the
-    // call keeps none.
-    unsafe {
-        legend_paint_lanes_i16(
-            *legend,
-            lanes,
-            src.as_ptr(),
-            src.len(),
-            nodata_given,
-            nodata,
-            out.as_mut_ptr(),
-            out.len(),
-            scratch.as_mut_ptr(),
-            scratch.len(),
-        )
-    }
-}
+sample_calls!(
+    f32,
+    color_for_f32 by legend_lent_color_for_f32,
+    paint_f32 by legend_lent_paint_f32,
+    paint_lanes_f32 by legend_lent_paint_lanes_f32
+);
+sample_calls!(
+    u8,
+    color_for_u8 by legend_lent_color_for_u8,
+    paint_u8 by legend_lent_paint_u8,
+    paint_lanes_u8 by legend_lent_paint_lanes_u8
+);
+sample_calls!(
+    i16,
+    color_for_i16 by legend_lent_color_for_i16,
+    paint_i16 by legend_lent_paint_i16,
+    paint_lanes_i16 by legend_lent_paint_lanes_i16
+);
 
 /// The whole range of the values of a legend.
 pub fn total_value_range(legend: &LegendRecord) -> LegendValueRange {

@@ -1,38 +1,14 @@
 -- `apply_to_data_kernel` meets its contract. Assumes nothing.
-use mathlib.Core.Path.{refl, _∙_}
-use native.Mathlib.Omega.{arith}
-use lib.ListN.{length}
-use Rattle.painting.proofs.Refusals.{lane-sizes}
-use Rattle.legend.specs.Painters.{painter}
-use Rattle.paint_legend.proofs.Lanes.{painted-lanes, not-none}
-use Rattle.apply.proofs.Calls.{lanes-refused, lanes-free, lanes-done}
+use Rattle.apply.proofs.Lending.{in-lanes}
 use borrow.Author.Needs.{needs}
 use Rattle.apply.proofs.apply_to_data_kernel.Statement.{statement}
 use Rattle.apply.proofs.apply_to_data_kernel.Tie as tie
 
-stored-refusal-requires : tie.Need-stored-refusal-requires
-stored-refusal-requires c κs = search needs
+head-of-requires : tie.Need-head-of-requires
+head-of-requires c κs = search needs
 
-lane-refusal-requires : tie.Need-lane-refusal-requires
-lane-refusal-requires c κs = search needs
-
-enum-told : tie.Need-enum-told
-enum-told c = search needs
-
-returns : tie.Need-returns
-returns c = let a = c .before .before .before .before .before .before .before .args in lanes-refused (a .legend) (a .nodata) (a .src .now) (a .out .now) (length (a .src .now)) (refl) (c .before .before .before .stored-refusal .result) (c .before .before .lane-refusal .result) (c .before .before .before .stored-refusal .ensures) (a .lanes) (a .scratch .now) (c .before .before .lane-refusal .ensures) (c .enum-told .given .1)
-
-enum-told-2 : tie.Need-enum-told-2
-enum-told-2 c = search needs
-
-simd-supported-requires : tie.Need-simd-supported-requires
-simd-supported-requires c κs = search needs
-
-paint-simd-requires : tie.Need-paint-simd-requires
-paint-simd-requires c κs = let a = c .before .before .before .before .before .before .before .before .before .args in let f = lanes-free (a .legend) (a .nodata) (a .src .now) (a .out .now) (length (a .src .now)) (refl) (c .before .before .before .before .before .stored-refusal .result) (c .before .before .before .before .lane-refusal .result) (c .before .before .before .before .before .stored-refusal .ensures) (a .lanes) (a .scratch .now) (c .before .before .before .before .lane-refusal .ensures) (c .before .before .enum-told2 .given .1) in (f .sound, f .count, f .same)
-
-keep-requires : tie.Need-keep-requires
-keep-requires c κs = let a = c .before .before .before .before .before .before .before .before .before .before .before .before .before .before .args in let f = lanes-free (a .legend) (a .nodata) (a .src .now) (a .out .now) (length (a .src .now)) (refl) (c .before .before .before .before .before .before .before .before .before .before .stored-refusal .result) (c .before .before .before .before .before .before .before .before .before .lane-refusal .result) (c .before .before .before .before .before .before .before .before .before .before .stored-refusal .ensures) (a .lanes) (a .scratch .now) (c .before .before .before .before .before .before .before .before .before .lane-refusal .ensures) (c .before .before .before .before .before .before .before .enum-told2 .given .1) in let z = lane-sizes (a .lanes) (f .count) in (z .0, omega (arith, f .room, z .1))
+apply-to-data-kernel-requires : tie.Need-apply-to-data-kernel-requires
+apply-to-data-kernel-requires c κs = search needs
 
 same-length : tie.Need-same-length
 same-length c = search needs
@@ -40,21 +16,8 @@ same-length c = search needs
 same-length-2 : tie.Need-same-length-2
 same-length-2 c = search needs
 
-returns-2 : tie.Need-returns-2
-returns-2 c = let a = c .before .before .before .before .before .before .before .before .before .before .before .before .before .before .before .before .before .args in let f = lanes-free (a .legend) (a .nodata) (a .src .now) (a .out .now) (length (a .src .now)) (refl) (c .before .before .before .before .before .before .before .before .before .before .before .before .before .stored-refusal .result) (c .before .before .before .before .before .before .before .before .before .before .before .before .lane-refusal .result) (c .before .before .before .before .before .before .before .before .before .before .before .before .before .stored-refusal .ensures) (a .lanes) (a .scratch .now) (c .before .before .before .before .before .before .before .before .before .before .before .before .lane-refusal .ensures) (c .before .before .before .before .before .before .before .before .before .before .enum-told2 .given .1) in lanes-done (a .legend) (a .nodata) (a .src .now) (a .out .now) (length (a .src .now)) (refl) (c .before .before .before .before .before .before .before .before .before .before .before .before .before .stored-refusal .result) (c .before .before .before .before .before .before .before .before .before .before .before .before .lane-refusal .result) (c .before .before .before .before .before .before .before .before .before .before .before .before .before .stored-refusal .ensures) (a .lanes) (a .scratch .now) (c .before .before .before .before .before .before .before .before .before .before .before .before .lane-refusal .ensures) (c .before .before .before .before .before .before .before .before .before .before .enum-told2 .given .1) (c .before .before .before .before .before .before .before .before .before .simd-supported .ensures) (c .before .before .before .before .before .before .before .paint-simd .ensures ∙ painted-lanes (painter (a .legend) (a .nodata)) (a .lanes) (a .src .now) (not-none (a .lanes) (f .count))) (c .before .before .keep .ensures)
+returns : tie.Need-returns
+returns c = let a = c .before .before .before .before .before .before .before .before .before .before .before .before .before .before .before .before .before .before .before .before .before .args in in-lanes (a .legend) (a .nodata) (c .before .before .before .before .before .before .before .before .before .before .before .head-of .ensures) (c .before .before .before .before .apply-to-data-kernel .ensures)
 
 pub apply-to-data-kernel-spec : {M : Type 1} → statement M
-apply-to-data-kernel-spec =
-    tie.close
-    (tie.spec
-    stored-refusal-requires
-    lane-refusal-requires
-    enum-told
-    returns
-    enum-told-2
-    simd-supported-requires
-    paint-simd-requires
-    keep-requires
-    same-length
-    same-length-2
-    returns-2)
+apply-to-data-kernel-spec = tie.close (tie.spec head-of-requires apply-to-data-kernel-requires same-length same-length-2 returns)

@@ -1,45 +1,15 @@
 -- `apply_to_data_kernel_i16` meets its contract. Assumes nothing.
-use mathlib.Core.Path.{sym, ap, _∙_}
-use native.Mathlib.Omega.{arith}
-use mathlib.Core.List.{map}
-use lib.ListN.{length, length-map}
-use Rattle.cast.specs.Samples.{ofI16}
 use Rattle.cast.specs.Nodata.{nodataI16}
-use Rattle.legend.specs.Painters.{painter}
-use Rattle.paint_legend.specs.PlainOrLanes.{painted}
-use Rattle.painting.proofs.Refusals.{lane-sizes}
-use Rattle.paint_legend.proofs.Lanes.{count-lanes}
-use Rattle.apply.proofs.Calls.{lanes-refused, lanes-free, lanes-done}
+use Rattle.apply.proofs.Lending.{in-lanes}
 use borrow.Author.Needs.{needs}
 use Rattle.apply.proofs.apply_to_data_kernel_i16.Statement.{statement}
 use Rattle.apply.proofs.apply_to_data_kernel_i16.Tie as tie
 
-stored-refusal-requires : tie.Need-stored-refusal-requires
-stored-refusal-requires c κs = search needs
+head-of-requires : tie.Need-head-of-requires
+head-of-requires c κs = search needs
 
-lane-refusal-requires : tie.Need-lane-refusal-requires
-lane-refusal-requires c κs = search needs
-
-enum-told : tie.Need-enum-told
-enum-told c = search needs
-
-returns : tie.Need-returns
-returns c = let a = c .before .before .before .before .before .before .args in lanes-refused (a .legend) (nodataI16 (a .nodata)) (map ofI16 (a .src .now)) (a .out .now) (length (a .src .now)) (sym (length-map (a .src .now) ofI16)) (c .before .before .before .stored-refusal .result) (c .before .before .lane-refusal .result) (c .before .before .before .stored-refusal .ensures) (a .lanes) (a .scratch .now) (c .before .before .lane-refusal .ensures) (c .enum-told .given .1)
-
-enum-told-2 : tie.Need-enum-told-2
-enum-told-2 c = search needs
-
-simd-supported-requires : tie.Need-simd-supported-requires
-simd-supported-requires c κs = search needs
-
-option-i16-requires : tie.Need-option-i16-requires
-option-i16-requires c κs = search needs
-
-paint-i16-requires : tie.Need-paint-i16-requires
-paint-i16-requires c κs = let a = c .before .before .before .before .before .before .before .before .before .args in let f = lanes-free (a .legend) (nodataI16 (a .nodata)) (map ofI16 (a .src .now)) (a .out .now) (length (a .src .now)) (sym (length-map (a .src .now) ofI16)) (c .before .before .before .before .before .before .stored-refusal .result) (c .before .before .before .before .before .lane-refusal .result) (c .before .before .before .before .before .before .stored-refusal .ensures) (a .lanes) (a .scratch .now) (c .before .before .before .before .before .lane-refusal .ensures) (c .before .before .before .enum-told2 .given .1) in (f .sound, count-lanes (a .lanes) (f .count), f .same)
-
-keep-requires : tie.Need-keep-requires
-keep-requires c κs = let a = c .before .before .before .before .before .before .before .before .before .before .before .before .before .before .args in let f = lanes-free (a .legend) (nodataI16 (a .nodata)) (map ofI16 (a .src .now)) (a .out .now) (length (a .src .now)) (sym (length-map (a .src .now) ofI16)) (c .before .before .before .before .before .before .before .before .before .before .before .stored-refusal .result) (c .before .before .before .before .before .before .before .before .before .before .lane-refusal .result) (c .before .before .before .before .before .before .before .before .before .before .before .stored-refusal .ensures) (a .lanes) (a .scratch .now) (c .before .before .before .before .before .before .before .before .before .before .lane-refusal .ensures) (c .before .before .before .before .before .before .before .before .enum-told2 .given .1) in let z = lane-sizes (a .lanes) (f .count) in (z .0, omega (arith, f .room, z .1))
+apply-to-data-kernel-i16-requires : tie.Need-apply-to-data-kernel-i16-requires
+apply-to-data-kernel-i16-requires c κs = search needs
 
 same-length : tie.Need-same-length
 same-length c = search needs
@@ -47,22 +17,8 @@ same-length c = search needs
 same-length-2 : tie.Need-same-length-2
 same-length-2 c = search needs
 
-returns-2 : tie.Need-returns-2
-returns-2 c = let a = c .before .before .before .before .before .before .before .before .before .before .before .before .before .before .before .before .before .args in lanes-done (a .legend) (nodataI16 (a .nodata)) (map ofI16 (a .src .now)) (a .out .now) (length (a .src .now)) (sym (length-map (a .src .now) ofI16)) (c .before .before .before .before .before .before .before .before .before .before .before .before .before .before .stored-refusal .result) (c .before .before .before .before .before .before .before .before .before .before .before .before .before .lane-refusal .result) (c .before .before .before .before .before .before .before .before .before .before .before .before .before .before .stored-refusal .ensures) (a .lanes) (a .scratch .now) (c .before .before .before .before .before .before .before .before .before .before .before .before .before .lane-refusal .ensures) (c .before .before .before .before .before .before .before .before .before .before .before .enum-told2 .given .1) (c .before .before .before .before .before .before .before .before .before .before .simd-supported .ensures) (c .before .before .before .before .before .before .before .paint-i16 .ensures ∙ ap (λ m. painted (painter (a .legend) m) (a .lanes) (map ofI16 (a .src .now))) (c .before .before .before .before .before .before .before .before .before .option-i16 .ensures)) (c .before .before .keep .ensures)
+returns : tie.Need-returns
+returns c = let a = c .before .before .before .before .before .before .before .before .before .before .before .before .before .before .before .before .before .before .before .before .args in in-lanes (a .legend) (nodataI16 (a .nodata)) (c .before .before .before .before .before .before .before .before .before .before .before .head-of .ensures) (c .before .before .before .before .apply-to-data-kernel-i16 .ensures)
 
 pub apply-to-data-kernel-i16-spec : {M : Type 1} → statement M
-apply-to-data-kernel-i16-spec =
-    tie.close
-    (tie.spec
-    stored-refusal-requires
-    lane-refusal-requires
-    enum-told
-    returns
-    enum-told-2
-    simd-supported-requires
-    option-i16-requires
-    paint-i16-requires
-    keep-requires
-    same-length
-    same-length-2
-    returns-2)
+apply-to-data-kernel-i16-spec = tie.close (tie.spec head-of-requires apply-to-data-kernel-i16-requires same-length same-length-2 returns)

@@ -1,33 +1,18 @@
 -- `color_for_value` meets its contract. Assumes nothing.
-use mathlib.Core.Path.{sym, ap, _∙_}
-use Rattle.legend.specs.Painters.{painter}
-use Rattle.apply.specs.declared.PixelColor.the-variants.{Color}
-use Rattle.apply.specs.Values.{colorUnless, colorForValue}
+use mathlib.Core.Path.{_∙_}
+use Rattle.apply.proofs.Lending.{sample}
 use borrow.Author.Needs.{needs}
 use Rattle.apply.proofs.color_for_value.Statement.{statement}
 use Rattle.apply.proofs.color_for_value.Tie as tie
 
-stored-refusal-requires : tie.Need-stored-refusal-requires
-stored-refusal-requires c κs = search needs
+head-of-requires : tie.Need-head-of-requires
+head-of-requires c κs = search needs
 
-enum-known-why : tie.Need-enum-known-why
-enum-known-why c = search needs
-
-enum-told : tie.Need-enum-told
-enum-told c = search needs
-
-pixel-requires : tie.Need-pixel-requires
-pixel-requires c κs = sym (c .before .before .stored-refusal .ensures) ∙ c .enum-told .given .1
+color-for-value-requires : tie.Need-color-for-value-requires
+color-for-value-requires c κs = search needs
 
 returns : tie.Need-returns
-unfolding colorForValue
-returns c = let s = c .before .before .before .before .args in sym (ap (λ a. colorUnless a (painter (s .legend) (s .nodata) .plain (s .value))) (sym (c .before .before .before .stored-refusal .ensures) ∙ c .before .why .given .1))
-
-returns-2 : tie.Need-returns-2
-unfolding colorForValue
-returns-2 c = let s = c .before .before .before .before .args in ap Color (c .pixel .ensures) ∙ sym (ap (λ a. colorUnless a (painter (s .legend) (s .nodata) .plain (s .value))) (sym (c .before .before .before .stored-refusal .ensures) ∙ c .before .enum-told .given .1))
+returns c = let a = c .before .before .before .before .before .before .before .before .before .before .before .before .args in c .color-for-value .ensures ∙ sample (a .legend) (a .nodata) (c .before .before .before .before .before .head-of .ensures) (a .value)
 
 pub color-for-value-spec : {M : Type 1} → statement M
-color-for-value-spec =
-    tie.close
-    (tie.spec stored-refusal-requires enum-known-why enum-told pixel-requires returns returns-2)
+color-for-value-spec = tie.close (tie.spec head-of-requires color-for-value-requires returns)

@@ -6,27 +6,27 @@ use borrow.Author.Needs.{needs}
 use Rattle.c_types.proofs.forms.use_form.Statement.{statement}
 use Rattle.c_types.proofs.forms.use_form.Tie as tie
 
-record-form-requires : tie.Need-record-form-requires
-record-form-requires c κs = search needs
+legend-form-requires : tie.Need-legend-form-requires
+legend-form-requires c κs = search needs
 
 enum-told : tie.Need-enum-told
 enum-told c = search needs
 
 returns : tie.Need-returns
 unfolding useForm
-returns c = simp (sym (c .before .before .record-form .ensures), c .enum-told .given .1)
+returns c = simp (sym (c .before .before .legend-form .ensures), c .enum-told .given .1)
 
 enum-told-2 : tie.Need-enum-told-2
 enum-told-2 c = search needs
 
 returns-2 : tie.Need-returns-2
 unfolding useForm
-returns-2 c = simp (sym (c .before .before .before .record-form .ensures), c .before .enum-told2 .given .1, lt-ltb _ _ (c .if1 .taken))
+returns-2 c = simp (sym (c .before .before .before .legend-form .ensures), c .before .enum-told2 .given .1, lt-ltb _ _ (c .if1 .taken))
 
 returns-3 : tie.Need-returns-3
 unfolding useForm
-returns-3 c = simp (sym (c .before .before .before .record-form .ensures), c .before .enum-told2 .given .1, le-ltb _ _ (c .if1 .left))
+returns-3 c = simp (sym (c .before .before .before .legend-form .ensures), c .before .enum-told2 .given .1, le-ltb _ _ (c .if1 .left))
 
 pub use-form-spec : {M : Type 1} → statement M
 use-form-spec =
-    tie.close (tie.spec record-form-requires enum-told returns enum-told-2 returns-2 returns-3)
+    tie.close (tie.spec legend-form-requires enum-told returns enum-told-2 returns-2 returns-3)

@@ -1,7 +1,7 @@
 -- `builders::bands_made` meets its contract. Assumes nothing.
 use mathlib.Core.Path.{ap, _∙_}
 use Rattle.legend.specs.Building.{madeBanded}
-use Rattle.c_types.specs.Records.{madeUnless}
+use Rattle.c_records.specs.Records.{madeUnless}
 use Rattle.legend_c.proofs.Unless.{unless}
 use borrow.Author.Needs.{needs}
 use Rattle.legend_c.proofs.builders.bands_made.Statement.{statement}

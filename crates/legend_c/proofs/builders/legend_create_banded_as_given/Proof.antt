@@ -37,10 +37,10 @@ use Rattle.banded.proofs.Rows.{Band}
 use Rattle.banded.proofs.Calls.{calls-fact}
 use Rattle.legend.specs.Building.{madeBanded}
 use Rattle.c_types.specs.declared.settings.LegendSettings.{LegendSettings}
-use Rattle.c_types.specs.declared.record.LegendMade.{LegendMade}
+use Rattle.c_records.specs.declared.record.LegendMade.{LegendMade}
 use Rattle.c_types.specs.Settings.{settingsOf}
 use Rattle.c_types.specs.Forms.{settingsForm}
-use Rattle.c_types.specs.Records.{madeUnless}
+use Rattle.c_records.specs.Records.{madeUnless}
 use Rattle.banded.proofs.Banded.new.Symbol.{name as #banded·new}
 use Rattle.legend_c.proofs.builders.bands_made.Symbol.{name as #bands-made}
 use Rattle.legend_c.proofs.builders.legend_create_banded_as_given.Key.{name as #as-given}
@@ -49,8 +49,8 @@ use Rattle.banded.proofs.MadeBanded as G
 use Rattle.banded.proofs.MadeBanded.Laws as G′
 use Rattle.c_types.proofs.settings.LegendSettings as S
 use Rattle.c_types.proofs.settings.LegendSettings.Laws as S′
-use Rattle.c_types.proofs.record.LegendMade as N
-use Rattle.c_types.proofs.record.LegendMade.Laws as N′
+use Rattle.c_records.proofs.record.LegendMade as N
+use Rattle.c_records.proofs.record.LegendMade.Laws as N′
 use Rattle.banded.proofs.Banded.new as new
 use Rattle.banded.proofs.Banded.new.Symbol as new-def
 use Rattle.banded.proofs.Banded.new.Met as new-thm

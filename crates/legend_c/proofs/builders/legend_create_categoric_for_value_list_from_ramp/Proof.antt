@@ -1,7 +1,7 @@
 -- `builders::legend_create_categoric_for_value_list_from_ramp` meets its contract. Assumes nothing.
 use mathlib.Core.Path.{ap, _∙_}
 use Rattle.legend.specs.Building.{madeCategoric}
-use Rattle.c_types.specs.Records.{madeUnless}
+use Rattle.c_records.specs.Records.{madeUnless}
 use Rattle.legend_c.proofs.Unless.{unless}
 use borrow.Author.Needs.{needs}
 use Rattle.legend_c.proofs.builders.legend_create_categoric_for_value_list_from_ramp.Statement.{

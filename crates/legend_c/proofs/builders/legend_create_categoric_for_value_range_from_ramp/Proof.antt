@@ -1,7 +1,7 @@
 -- `builders::legend_create_categoric_for_value_range_from_ramp` meets its contract. Assumes nothing.
 use mathlib.Core.Path.{_∙_}
 use Rattle.legend.specs.Building.{madeCategoric}
-use Rattle.c_types.specs.Records.{madeUnless}
+use Rattle.c_records.specs.Records.{madeUnless}
 use Rattle.legend_c.proofs.Unless.{unless}
 use Rattle.catgegoric.specs.Made.{forValueRangeFromRamp}
 use Rattle.key_lists.proofs.Numbers.{back₂}

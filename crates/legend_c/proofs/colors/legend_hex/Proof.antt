@@ -1,5 +1,5 @@
 -- `colors::legend_hex` meets its contract. Assumes nothing.
-use Rattle.c_types.specs.Colors.{colorAnswer}
+use Rattle.c_answers.specs.Colors.{colorAnswer}
 use mathlib.Core.Path.{ap, _∙_}
 use borrow.Author.Needs.{needs}
 use Rattle.legend_c.proofs.colors.legend_hex.Statement.{statement}

@@ -1,5 +1,5 @@
 -- `colors::legend_palette` meets its contract. Assumes nothing.
-use Rattle.c_types.specs.Colors.{paletteAnswer}
+use Rattle.c_answers.specs.Colors.{paletteAnswer}
 use mathlib.Core.Path.{ap, _∙_}
 use borrow.Author.Needs.{needs}
 use Rattle.legend_c.proofs.colors.legend_palette.Statement.{statement}

@@ -1,5 +1,5 @@
 -- `keys::legend_to_i64` meets its contract. Assumes nothing.
-use Rattle.c_types.specs.Keys.{keyOf}
+use Rattle.c_answers.specs.Keys.{keyOf}
 use mathlib.Core.Path.{ap, _∙_}
 use borrow.Author.Needs.{needs}
 use Rattle.legend_c.proofs.keys.legend_to_i64.Statement.{statement}

@@ -1,5 +1,5 @@
 -- `ramps::legend_ramp_from_palette` meets its contract. Assumes nothing.
-use Rattle.c_types.specs.Ramps.{rampAnswer}
+use Rattle.c_answers.specs.Ramps.{rampAnswer}
 use mathlib.Core.Path.{ap, _∙_}
 use borrow.Author.Needs.{needs}
 use Rattle.legend_c.proofs.ramps.legend_ramp_from_palette.Statement.{statement}

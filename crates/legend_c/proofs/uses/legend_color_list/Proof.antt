@@ -1,7 +1,7 @@
 -- `uses::legend_color_list` meets its contract. Assumes nothing.
 use mathlib.Core.Path.{ap, _∙_}
 use Rattle.apply.specs.ColorLists.{colorList}
-use Rattle.c_types.specs.Uses.{listUnless}
+use Rattle.c_answers.specs.Uses.{listUnless}
 use Rattle.legend_c.proofs.Unless.{unless}
 use borrow.Author.Needs.{needs}
 use Rattle.legend_c.proofs.uses.legend_color_list.Statement.{statement}
@@ -13,14 +13,14 @@ legend-of-requires c κs = search needs
 color-list-requires : tie.Need-color-list-requires
 color-list-requires c κs = search needs
 
-record-form-requires : tie.Need-record-form-requires
-record-form-requires c κs = search needs
+legend-form-requires : tie.Need-legend-form-requires
+legend-form-requires c κs = search needs
 
 list-unless-requires : tie.Need-list-unless-requires
 list-unless-requires c κs = search needs
 
 returns : tie.Need-returns
-returns c = unless listUnless (c .list-unless .ensures) (c .before .record-form .ensures) (c .before .before .color-list .ensures ∙ ap colorList (c .before .before .before .legend-of .ensures))
+returns c = unless listUnless (c .list-unless .ensures) (c .before .legend-form .ensures) (c .before .before .color-list .ensures ∙ ap colorList (c .before .before .before .legend-of .ensures))
 
 pub legend-color-list-spec : {M : Type 1} → statement M
 legend-color-list-spec =
@@ -28,6 +28,6 @@ legend-color-list-spec =
     (tie.spec
     legend-of-requires
     color-list-requires
-    record-form-requires
+    legend-form-requires
     list-unless-requires
     returns)

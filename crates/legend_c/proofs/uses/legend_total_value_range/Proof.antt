@@ -1,7 +1,7 @@
 -- `uses::legend_total_value_range` meets its contract. Assumes nothing.
 use mathlib.Core.Path.{ap, _∙_}
 use Rattle.legend.specs.ValueRanges.{totalValueRange}
-use Rattle.c_types.specs.Uses.{rangeUnless}
+use Rattle.c_answers.specs.Uses.{rangeUnless}
 use Rattle.legend_c.proofs.Unless.{unless}
 use borrow.Author.Needs.{needs}
 use Rattle.legend_c.proofs.uses.legend_total_value_range.Statement.{statement}
@@ -13,14 +13,14 @@ legend-of-requires c κs = search needs
 total-value-range-requires : tie.Need-total-value-range-requires
 total-value-range-requires c κs = search needs
 
-record-form-requires : tie.Need-record-form-requires
-record-form-requires c κs = search needs
+legend-form-requires : tie.Need-legend-form-requires
+legend-form-requires c κs = search needs
 
 range-unless-requires : tie.Need-range-unless-requires
 range-unless-requires c κs = search needs
 
 returns : tie.Need-returns
-returns c = unless rangeUnless (c .range-unless .ensures) (c .before .record-form .ensures) (c .before .before .total-value-range .ensures ∙ ap totalValueRange (c .before .before .before .legend-of .ensures))
+returns c = unless rangeUnless (c .range-unless .ensures) (c .before .legend-form .ensures) (c .before .before .total-value-range .ensures ∙ ap totalValueRange (c .before .before .before .legend-of .ensures))
 
 pub legend-total-value-range-spec : {M : Type 1} → statement M
 legend-total-value-range-spec =
@@ -28,6 +28,6 @@ legend-total-value-range-spec =
     (tie.spec
     legend-of-requires
     total-value-range-requires
-    record-form-requires
+    legend-form-requires
     range-unless-requires
     returns)

@@ -1,0 +1,18 @@
+-- The colour of one sample (docs/RULES.md, "Where each call says no": 16). Definitions only.
+use Prim.Native.Nat.{ℕ}
+use lib.Ieee.{Float}
+use Rattle.refusal.specs.declared.Answer.{Answer}
+use Rattle.refusal.specs.declared.Answer.the-variants as answer
+use Rattle.cast.specs.declared.Nodata.{Nodata}
+use Rattle.legend.specs.declared.Legend.{Legend}
+use Rattle.legend.specs.Record.{storedRefusal}
+use Rattle.legend.specs.Painters.{painter}
+use Rattle.apply_lent.specs.declared.PixelColor.{PixelColor}
+use Rattle.apply_lent.specs.declared.PixelColor.the-variants as pixel
+
+abbrev pub colorUnless : Answer → ℕ → PixelColor
+colorUnless answer.Done color = pixel.Color color
+colorUnless (answer.Refused why) color = pixel.Refused why
+
+unfoldable pub colorForValue : Legend → Nodata → Float → PixelColor
+colorForValue l nodata v = colorUnless (storedRefusal l) (painter l nodata .plain v)

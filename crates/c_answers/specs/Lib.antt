@@ -1,0 +1,4 @@
+pub mod Colors
+pub mod Keys
+pub mod Ramps
+pub mod Uses

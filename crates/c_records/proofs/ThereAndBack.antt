@@ -1,0 +1,53 @@
+-- What a builder made is what it is used as: a legend, laid flat for C and read back, is the same legend, and the interface refuses nothing of it. Assumes nothing.
+use mathlib.Core.Path.{_≡_, refl}
+use mathlib.Core.Bool.{Bool, true, false}
+use lib.Dec.{ltb, eqb}
+use Rattle.colormapper.specs.declared.OptionalColor.{OptionalColor}
+use Rattle.colormapper.specs.declared.OptionalColor.the-variants.{Given, Absent}
+use Rattle.colormapper.specs.declared.MappingConfig.{MappingConfig}
+use Rattle.colormapper.specs.Settings.{orElse}
+use Rattle.legend.specs.declared.LegendKind.{LegendKind}
+use Rattle.legend.specs.declared.LegendKind.the-variants.{Linear, Banded, CategoricNumeric}
+use Rattle.legend.specs.declared.Legend.{Legend}
+use Rattle.c_types.specs.declared.forms.Form.the-variants.{Sound}
+use Rattle.c_types.specs.Settings.{colorIf, flagOf, givenFlag, settingsOf, flatSettings}
+use Rattle.c_records.specs.Records.{kindOf, kindNumber, legendOf, flat}
+use Rattle.c_types.specs.Forms.{settingsForm, legendForm}
+
+color-back : (o : OptionalColor) → colorIf (givenFlag o) (orElse o 0) ≡ o
+color-back (Given c) = refl
+color-back Absent = refl
+
+flag-back : (b : Bool) → eqb (flagOf b) 1 ≡ b
+flag-back true = refl
+flag-back false = refl
+
+kind-back : (k : LegendKind) → kindOf (kindNumber k) ≡ k
+kind-back Linear = refl
+kind-back Banded = refl
+kind-back CategoricNumeric = refl
+
+pub settings-back : (c : MappingConfig) → settingsOf (flatSettings c) ≡ c
+unfolding settingsOf flatSettings
+settings-back c = λ j. record { «nodata_color» = c .«nodata_color»; «out_of_range_low_color» = color-back (c .«out_of_range_low_color») j; «out_of_range_high_color» = color-back (c .«out_of_range_high_color») j; «zero_is_nodata» = flag-back (c .«zero_is_nodata») j }
+
+pub legend-back : (l : Legend) → legendOf (flat l) ≡ l
+unfolding legendOf flat
+legend-back l = λ j. record { kind = kind-back (l .kind) j; linear = l .linear; banded = l .banded; categoric = l .categoric; «mapping_config» = settings-back (l .«mapping_config») j }
+
+color-flag : (o : OptionalColor) → ltb (givenFlag o) 2 ≡ true
+color-flag (Given c) = refl
+color-flag Absent = refl
+
+bool-flag : (b : Bool) → ltb (flagOf b) 2 ≡ true
+bool-flag true = refl
+bool-flag false = refl
+
+kind-known : (k : LegendKind) → ltb 2 (kindNumber k) ≡ false
+kind-known Linear = refl
+kind-known Banded = refl
+kind-known CategoricNumeric = refl
+
+pub flat-sound : (l : Legend) → legendForm (flat l .settings) (flat l .kind) ≡ Sound
+unfolding legendForm settingsForm flat flatSettings
+flat-sound l = let c = l .«mapping_config» in simp (color-flag (c .«out_of_range_low_color»), color-flag (c .«out_of_range_high_color»), bool-flag (c .«zero_is_nodata»), kind-known (l .kind))

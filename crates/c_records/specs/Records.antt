@@ -1,0 +1,36 @@
+-- A legend as C holds it, and the way back; what a builder made. Definitions only.
+use Prim.Native.Nat.{ℕ}
+use mathlib.Core.Bool.{cond}
+use lib.Dec.{eqb}
+use Rattle.refusal.specs.declared.Index.the-variants.{Absent}
+use Rattle.legend.specs.declared.LegendKind.{LegendKind}
+use Rattle.legend.specs.declared.LegendKind.the-variants.{Linear, Banded, CategoricNumeric}
+use Rattle.legend.specs.declared.Legend.{Legend}
+use Rattle.legend.specs.declared.MadeLegend.{MadeLegend}
+use Rattle.legend.specs.Record.{emptyLegend}
+use Rattle.c_types.specs.declared.forms.Form.{Form}
+use Rattle.c_types.specs.declared.forms.Form.the-variants.{Sound, Refused}
+use Rattle.c_records.specs.declared.record.LegendRecord.{LegendRecord}
+use Rattle.c_records.specs.declared.record.LegendMade.{LegendMade}
+use Rattle.c_types.specs.Answers.{place, answerOf}
+use Rattle.c_types.specs.Settings.{settingsOf, flatSettings}
+
+-- 0 linear, 1 banded, 2 categoric; the numbers from 3 on are refused before
+abbrev pub kindOf : ℕ → LegendKind
+kindOf n = cond (eqb n 0) Linear (cond (eqb n 1) Banded CategoricNumeric)
+
+unfoldable pub legendOf : LegendRecord → Legend
+legendOf r = record { kind = kindOf (r .kind); linear = r .linear; banded = r .banded; categoric = r .categoric; «mapping_config» = settingsOf (r .settings) }
+
+abbrev pub kindNumber : LegendKind → ℕ
+kindNumber Linear = 0
+kindNumber Banded = 1
+kindNumber CategoricNumeric = 2
+
+unfoldable pub flat : Legend → LegendRecord
+flat l = record { kind = kindNumber (l .kind); settings = flatSettings (l .«mapping_config»); linear = l .linear; banded = l .banded; categoric = l .categoric }
+
+-- what a builder made, unless the call's own arguments are refused
+unfoldable pub madeUnless : Form → MadeLegend → LegendMade
+madeUnless Sound made = record { answer = answerOf (made .answer); legend = flat (made .legend) }
+madeUnless (Refused n) made = record { answer = place n Absent; legend = flat emptyLegend }

@@ -1,0 +1,106 @@
+// A legend as C holds it.
+use banded::Banded;
+use c_types::answer;
+use c_types::answer::LegendAnswer;
+use c_types::forms::Form;
+use c_types::settings;
+use c_types::settings::LegendSettings;
+use catgegoric::CategoricNumeric;
+use legend::Legend;
+use legend::LegendKind;
+use legend::MadeLegend;
+use linear::Linear;
+use refusal::Index;
+ghost use mathlib.Core.Path.{_≡_};
+ghost use Rattle.c_records.specs.Records.{kindOf, kindNumber, legendOf, flat, madeUnless};
+
+// The kind is 0 for linear, 1 for banded, 2 for categoric; of the three records that of the kind alone counts.
+#[repr(C)]
+pub struct LegendRecord {
+    pub kind: u32,
+    pub settings: LegendSettings,
+    pub linear: Linear,
+    pub banded: Banded,
+    pub categoric: CategoricNumeric,
+}
+
+// A legend that was asked for: the empty one beside a refusal.
+#[repr(C)]
+pub struct LegendMade {
+    pub answer: LegendAnswer,
+    pub legend: LegendRecord,
+}
+
+// A kind that is none of the three has been refused before.
+pub fn kind_of(kind: u32) -> LegendKind
+    ensures { λ r. ⌜ r ≡ kindOf kind ⌝ }
+{
+    if kind == 0 {
+        return LegendKind::Linear;
+    }
+    if kind == 1 {
+        return LegendKind::Banded;
+    }
+    LegendKind::CategoricNumeric
+}
+
+pub fn legend_of(stored: LegendRecord) -> Legend
+    ensures { λ r. ⌜ r ≡ legendOf stored ⌝ }
+{
+    let linear = stored.linear;
+    let banded = stored.banded;
+    let categoric = stored.categoric;
+    let given = stored.settings;
+    Legend {
+        kind: kind_of(stored.kind),
+        linear,
+        banded,
+        categoric,
+        mapping_config: settings::settings_of(given),
+    }
+}
+
+fn kind_number(kind: LegendKind) -> u32
+    ensures { λ r. ⌜ r ≡ kindNumber kind ⌝ }
+{
+    match kind {
+        LegendKind::Linear => 0,
+        LegendKind::Banded => 1,
+        LegendKind::CategoricNumeric => 2,
+    }
+}
+
+fn flat(made: Legend) -> LegendRecord
+    ensures { λ r. ⌜ r ≡ flat made ⌝ }
+{
+    let kind = made.kind;
+    let linear = made.linear;
+    let banded = made.banded;
+    let categoric = made.categoric;
+    let config = made.mapping_config;
+    LegendRecord {
+        kind: kind_number(kind),
+        settings: settings::flat_settings(config),
+        linear,
+        banded,
+        categoric,
+    }
+}
+
+// What a builder made, unless its arguments are refused.
+pub fn made_unless(form: Form, made: MadeLegend) -> LegendMade
+    ensures { λ r. ⌜ r ≡ madeUnless form made ⌝ }
+{
+    let given = made.answer;
+    let legend = made.legend;
+    match form {
+        Form::Refused(number) => LegendMade {
+            answer: answer::placed(number, Index::Absent),
+            legend: flat(Legend::default()),
+        },
+        Form::Sound => LegendMade {
+            answer: answer::told(given),
+            legend: flat(legend),
+        },
+    }
+}

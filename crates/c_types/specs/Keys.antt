@@ -1,9 +1,0 @@
--- A truncated sample as C reads it. Definitions only.
-use lib.IntN.{pos}
-use Rattle.cast.specs.declared.Truncated.{Truncated}
-use Rattle.cast.specs.declared.Truncated.the-variants.{Whole, Outside}
-use Rattle.c_types.specs.declared.keys.LegendKey.{LegendKey}
-
-abbrev pub keyOf : Truncated → LegendKey
-keyOf (Whole k) = record { key = k; whole = 1 }
-keyOf Outside = record { key = pos 0; whole = 0 }

@@ -1,7 +1,0 @@
--- A ramp that is asked for, as C reads it. Definitions only.
-use Rattle.colormap.specs.declared.MadeRamp.{MadeRamp}
-use Rattle.c_types.specs.declared.ramps.LegendRamp.{LegendRamp}
-use Rattle.c_types.specs.Answers.{answerOf}
-
-abbrev pub rampAnswer : MadeRamp → LegendRamp
-rampAnswer m = record { answer = answerOf (m .answer); colors = m .ramp .cmap }
