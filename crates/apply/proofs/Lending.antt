@@ -10,8 +10,8 @@ use Rattle.legend.specs.declared.Legend.{Legend}
 use Rattle.legend.specs.Painters.{painter}
 use Rattle.legend_head.specs.declared.Head.{Head}
 use Rattle.legend_head.specs.Lent.{lentLegend, headOf}
-use Rattle.apply_lent.specs.declared.PixelColor.{PixelColor}
-use Rattle.apply_lent.specs.Values.{colorForValue}
+use Rattle.pixel_color.specs.declared.PixelColor.{PixelColor}
+use Rattle.pixel_color.specs.Values.{colorForValue}
 
 module _ (l : Legend) (nodata : Nodata) {h : Head} (e : h ≡ headOf l) where
   abbrev again : Head → Legend

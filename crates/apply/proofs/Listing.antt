@@ -22,7 +22,7 @@ use Rattle.painting.specs.Contracts.{PlainPainting, plainRefusal}
 use Rattle.legend.specs.Record.{storedRefusal}
 use Rattle.legend.specs.Painters.{painter}
 use Rattle.legend.proofs.AnyKind.{stored-is}
-use Rattle.legend.specs.ValueRanges.{rangeIn, rangeRefusal}
+use Rattle.value_range.specs.ValueRanges.{rangeIn, rangeRefusal}
 use Rattle.apply.specs.declared.ColorList.{ColorList}
 use Rattle.apply.specs.ColorLists.{valueAt, listColors, colorList}
 

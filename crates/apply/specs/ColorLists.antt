@@ -10,7 +10,7 @@ use Rattle.cast.specs.declared.Nodata.the-variants.{Absent}
 use Rattle.band_lists.specs.declared.ValueRange.{ValueRange}
 use Rattle.legend.specs.declared.Legend.{Legend}
 use Rattle.legend.specs.Painters.{painter}
-use Rattle.legend.specs.ValueRanges.{rangeIn, rangeRefusal}
+use Rattle.value_range.specs.ValueRanges.{rangeIn, rangeRefusal}
 use Rattle.apply.specs.declared.ColorList.{ColorList}
 
 -- the value at a position i of 256: start + (end - start) × (i / 255)

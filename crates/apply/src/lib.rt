@@ -1,11 +1,11 @@
 // What a legend that is there by value is used for (docs/RULES.md, "Painting"): its arrays are lent to the calls of `apply_lent`. The
 // list of its colours.
-use apply_lent::PixelColor;
 use band_lists::ValueRange;
 use cast::Nodata;
 use cast::NodataI16;
 use cast::NodataU8;
 use legend::Legend;
+use pixel_color::PixelColor;
 use refusal::Answer;
 ghost use mathlib.Core.Path.{_≡_};
 ghost use mathlib.Core.List.{map};
@@ -14,7 +14,7 @@ ghost use Rattle.cast.specs.Samples.{ofU8, ofI16};
 ghost use Rattle.cast.specs.Nodata.{nodataU8, nodataI16};
 ghost use Rattle.painting.specs.Contracts.{PlainPainting, LanePainting};
 ghost use Rattle.legend.specs.Painters.{painter};
-ghost use Rattle.apply_lent.specs.Values.{colorForValue};
+ghost use Rattle.pixel_color.specs.Values.{colorForValue};
 ghost use Rattle.apply.specs.ColorLists.{valueAt, colorList};
 
 // 256 colours from the lowest to the highest value, TRANSPARENT throughout beside a refusal.
@@ -181,7 +181,7 @@ pub fn color_for_value(legend: Legend, value: f32, nodata: Nodata) -> PixelColor
     let colors = categoric.colors;
     let lookup = categoric.lookup;
     let head = legend_head::head_of(legend);
-    apply_lent::color_for_value(head, &cmap, &keys, &colors, &lookup, value, nodata)
+    pixel_color::color_for_value(head, &cmap, &keys, &colors, &lookup, value, nodata)
 }
 
 pub fn color_for_value_u8(legend: Legend, value: u8, nodata: NodataU8) -> PixelColor
@@ -194,7 +194,7 @@ pub fn color_for_value_u8(legend: Legend, value: u8, nodata: NodataU8) -> PixelC
     let colors = categoric.colors;
     let lookup = categoric.lookup;
     let head = legend_head::head_of(legend);
-    apply_lent::color_for_value_u8(head, &cmap, &keys, &colors, &lookup, value, nodata)
+    pixel_color::color_for_value_u8(head, &cmap, &keys, &colors, &lookup, value, nodata)
 }
 
 pub fn color_for_value_i16(legend: Legend, value: i16, nodata: NodataI16) -> PixelColor
@@ -207,7 +207,7 @@ pub fn color_for_value_i16(legend: Legend, value: i16, nodata: NodataI16) -> Pix
     let colors = categoric.colors;
     let lookup = categoric.lookup;
     let head = legend_head::head_of(legend);
-    apply_lent::color_for_value_i16(head, &cmap, &keys, &colors, &lookup, value, nodata)
+    pixel_color::color_for_value_i16(head, &cmap, &keys, &colors, &lookup, value, nodata)
 }
 
 // ---- the list of colours
@@ -215,12 +215,12 @@ pub fn color_for_value_i16(legend: Legend, value: i16, nodata: NodataI16) -> Pix
 pub fn color_list(legend: Legend) -> ColorList
     ensures { λ r. ⌜ r ≡ colorList legend ⌝ }
 {
-    let answer = legend::range_refusal(legend);
+    let answer = value_range::range_refusal(legend);
     let mut colors = [0u32; 256];
     if let Answer::Refused(_) = answer {
         return ColorList { answer, colors };
     }
-    let values = list_values(legend::range_of(legend));
+    let values = list_values(value_range::range_of(legend));
     apply_to_data_scalar(legend, &values, Nodata::Absent, &mut colors);
     ColorList { answer, colors }
 }

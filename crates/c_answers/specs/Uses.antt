@@ -3,10 +3,10 @@ use lib.ListN.{replicate}
 use Rattle.floats.specs.RampIndex.{nought}
 use Rattle.refusal.specs.declared.Answer.the-variants as answer
 use Rattle.refusal.specs.declared.Index.the-variants.{Absent}
-use Rattle.legend.specs.declared.TotalRange.{TotalRange}
-use Rattle.legend.specs.declared.TotalRange.the-variants as total
-use Rattle.apply_lent.specs.declared.PixelColor.{PixelColor}
-use Rattle.apply_lent.specs.declared.PixelColor.the-variants as pixel
+use Rattle.value_range.specs.declared.TotalRange.{TotalRange}
+use Rattle.value_range.specs.declared.TotalRange.the-variants as total
+use Rattle.pixel_color.specs.declared.PixelColor.{PixelColor}
+use Rattle.pixel_color.specs.declared.PixelColor.the-variants as pixel
 use Rattle.apply.specs.declared.ColorList.{ColorList}
 use Rattle.c_answers.specs.declared.colors.LegendColor.{LegendColor}
 use Rattle.c_types.specs.declared.forms.Form.{Form}

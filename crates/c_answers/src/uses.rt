@@ -1,13 +1,13 @@
 // What a legend is used for: the colour of a sample, the whole range of its values, the list of its colours.
 use crate::colors::LegendColor;
 use apply::ColorList;
-use apply_lent::PixelColor;
 use c_types::answer;
 use c_types::answer::LegendAnswer;
 use c_types::forms::Form;
-use legend::TotalRange;
+use pixel_color::PixelColor;
 use refusal::Answer;
 use refusal::Index;
+use value_range::TotalRange;
 ghost use mathlib.Core.Path.{_≡_};
 ghost use Rattle.c_answers.specs.Uses.{pixelAnswer, pixelUnless, rangeAnswer, rangeUnless, listUnless};
 

@@ -15,7 +15,7 @@ use Rattle.key_lists.specs.Keys.{outsideFrom}
 use Rattle.catgegoric.specs.Made.{madeUnless, manyRefusal, valuesRefusal, wideRefusal, rangeRefusal, categoricRefusal}
 use Rattle.painting.specs.Contracts.{plainRefusal, laneRefusal}
 use Rattle.legend.specs.Record.{storedRefusal}
-use Rattle.legend.specs.ValueRanges as ranges
+use Rattle.value_range.specs.ValueRanges as ranges
 use Rattle.examples.specs.FirstRefusals.{allGiven, rows}
 
 pub all-given : T (allGiven rows)

@@ -22,7 +22,7 @@ use Rattle.banded.specs.ManualRanges.{withManualRanges}
 use Rattle.catgegoric.specs.Made.{forValues, forValueRange}
 use Rattle.painting.specs.Contracts.{plainRefusal, laneRefusal}
 use Rattle.legend.specs.Record.{categoricLegend}
-use Rattle.legend.specs.ValueRanges.{rangeRefusal}
+use Rattle.value_range.specs.ValueRanges.{rangeRefusal}
 
 abbrev of-hex : HexColor → Answer
 of-hex (Made color) = Done

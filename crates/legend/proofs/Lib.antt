@@ -2,4 +2,3 @@
 pub mod Stored
 pub mod AnyKind
 mod Making
-pub mod Ranging

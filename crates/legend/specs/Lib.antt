@@ -1,4 +1,3 @@
 pub mod Record
 pub mod Building
 pub mod Painters
-pub mod ValueRanges

@@ -13,8 +13,8 @@ use c_types::samples;
 ghost use mathlib.Core.Path.{_≡_};
 ghost use Rattle.cast.specs.Samples.{ofU8, ofI16};
 ghost use Rattle.cast.specs.Nodata.{nodataU8, nodataI16};
-ghost use Rattle.legend.specs.ValueRanges.{totalValueRange};
-ghost use Rattle.apply_lent.specs.Values.{colorForValue};
+ghost use Rattle.value_range.specs.ValueRanges.{totalValueRange};
+ghost use Rattle.pixel_color.specs.Values.{colorForValue};
 ghost use Rattle.apply.specs.ColorLists.{colorList};
 ghost use Rattle.c_types.specs.Forms.{legendForm, useForm};
 ghost use Rattle.legend_head.specs.Lent.{lentLegend};
@@ -39,7 +39,7 @@ pub extern "C" fn legend_lent_color_for_f32(
 ) -> LegendColor
     ensures { λ r. ⌜ r ≡ pixelUnless (useForm (head .settings) (head .kind) «nodata_given») (colorForValue (lentLegend (headGiven head banded) (now (cmap .entry)) (now (keys .entry)) (now (colors .entry)) (now (lookup .entry))) (nodataIf «nodata_given» nodata) value) ⌝ }
 {
-    let pixel = apply_lent::color_for_value(
+    let pixel = pixel_color::color_for_value(
         head::head_given(head, banded),
         cmap,
         keys,
@@ -68,7 +68,7 @@ pub extern "C" fn legend_lent_color_for_u8(
 ) -> LegendColor
     ensures { λ r. ⌜ r ≡ pixelUnless (useForm (head .settings) (head .kind) «nodata_given») (colorForValue (lentLegend (headGiven head banded) (now (cmap .entry)) (now (keys .entry)) (now (colors .entry)) (now (lookup .entry))) (nodataU8 (nodataIfU8 «nodata_given» nodata)) (ofU8 value)) ⌝ }
 {
-    let pixel = apply_lent::color_for_value_u8(
+    let pixel = pixel_color::color_for_value_u8(
         head::head_given(head, banded),
         cmap,
         keys,
@@ -97,7 +97,7 @@ pub extern "C" fn legend_lent_color_for_i16(
 ) -> LegendColor
     ensures { λ r. ⌜ r ≡ pixelUnless (useForm (head .settings) (head .kind) «nodata_given») (colorForValue (lentLegend (headGiven head banded) (now (cmap .entry)) (now (keys .entry)) (now (colors .entry)) (now (lookup .entry))) (nodataI16 (nodataIfI16 «nodata_given» nodata)) (ofI16 value)) ⌝ }
 {
-    let pixel = apply_lent::color_for_value_i16(
+    let pixel = pixel_color::color_for_value_i16(
         head::head_given(head, banded),
         cmap,
         keys,
@@ -118,7 +118,7 @@ pub extern "C" fn legend_lent_color_for_i16(
 pub extern "C" fn legend_total_value_range(legend: LegendRecord) -> LegendValueRange
     ensures { λ r. ⌜ r ≡ rangeUnless (legendForm (legend .settings) (legend .kind)) (totalValueRange (legendOf legend)) ⌝ }
 {
-    let range = legend::total_value_range(record::legend_of(legend));
+    let range = value_range::total_value_range(record::legend_of(legend));
     uses::range_unless(forms::legend_form(legend.settings, legend.kind), range)
 }
 

@@ -2,13 +2,13 @@
 use crate::build;
 use crate::place;
 use crate::row;
-use apply_lent::PixelColor;
 use cast::Nodata;
 use cast::NodataI16;
 use cast::NodataU8;
 use legend::Legend;
-use legend::TotalRange;
+use pixel_color::PixelColor;
 use refusal::Answer;
+use value_range::TotalRange;
 ghost use Prim.Native.Nat.{_+_, _≤_};
 
 pub fn legend_row(row: &[u32; 160]) -> bool {
@@ -26,7 +26,7 @@ pub fn legend_row(row: &[u32; 160]) -> bool {
 
 // The whole range of its values.
 fn range(legend: Legend, row: &[u32; 160]) -> bool {
-    match legend::total_value_range(legend) {
+    match value_range::total_value_range(legend) {
         TotalRange::Range(range) => {
             (row::bits(range.start) == row[place::RANGE])
                 & (row::bits(range.end) == row[place::RANGE + 1])

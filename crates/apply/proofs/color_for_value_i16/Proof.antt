@@ -4,7 +4,7 @@ use mir.Syntax.{w16}
 use mir.Facts.{toZ-ofZ}
 use Rattle.cast.specs.Samples.{ofI16}
 use Rattle.cast.specs.Nodata.{nodataI16}
-use Rattle.apply_lent.specs.Values.{colorForValue}
+use Rattle.pixel_color.specs.Values.{colorForValue}
 use Rattle.apply.proofs.Lending.{sample}
 use borrow.Author.Needs.{needs}
 use Rattle.apply.proofs.color_for_value_i16.Statement.{statement}

@@ -1,6 +1,6 @@
 -- `color_list` meets its contract. Assumes nothing.
 use mathlib.Core.Path.{sym, _∙_}
-use Rattle.legend.proofs.Ranging.{range-stored}
+use Rattle.value_range.proofs.Ranging.{range-stored}
 use Rattle.apply.proofs.Listing.{list-refused, list-done, drawn}
 use borrow.Author.Needs.{needs}
 use Rattle.apply.proofs.color_list.Statement.{statement}

@@ -1,6 +1,6 @@
 -- `uses::legend_lent_color_for_f32` meets its contract. Assumes nothing.
 use mathlib.Core.Path.{_∙_}
-use Rattle.apply_lent.specs.Values.{colorForValue}
+use Rattle.pixel_color.specs.Values.{colorForValue}
 use Rattle.c_answers.specs.Uses.{pixelUnless}
 use Rattle.legend_c.proofs.Unless.{unless}
 use Rattle.legend_head.specs.Lent.{lentLegend}

@@ -1,5 +1,5 @@
 -- `uses::legend_lent_color_for_i16` meets its contract. Assumes nothing.
-use Rattle.apply_lent.specs.Values.{colorForValue}
+use Rattle.pixel_color.specs.Values.{colorForValue}
 use Rattle.c_answers.specs.Uses.{pixelUnless}
 use Rattle.legend_c.proofs.Unless.{unless}
 use mathlib.Core.Path.{ap, _∙_}

@@ -1,7 +1,7 @@
 -- `uses::legend_lent_color_for_u8` meets its contract. Assumes nothing.
 use mathlib.Core.Path.{_∙_}
 use Rattle.cast.specs.Samples.{ofU8}
-use Rattle.apply_lent.specs.Values.{colorForValue}
+use Rattle.pixel_color.specs.Values.{colorForValue}
 use Rattle.c_answers.specs.Uses.{pixelUnless}
 use Rattle.legend_c.proofs.Unless.{unless}
 use Rattle.cast.specs.Nodata.{nodataU8}

@@ -1,6 +1,6 @@
 -- `uses::legend_total_value_range` meets its contract. Assumes nothing.
 use mathlib.Core.Path.{ap, _∙_}
-use Rattle.legend.specs.ValueRanges.{totalValueRange}
+use Rattle.value_range.specs.ValueRanges.{totalValueRange}
 use Rattle.c_answers.specs.Uses.{rangeUnless}
 use Rattle.legend_c.proofs.Unless.{unless}
 use borrow.Author.Needs.{needs}

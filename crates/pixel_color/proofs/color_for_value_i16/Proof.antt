@@ -3,11 +3,11 @@ use mathlib.Core.Path.{ap, ap₂, _∙_}
 use mir.Syntax.{w16}
 use mir.Facts.{toZ-ofZ}
 use Rattle.cast.specs.Samples.{ofI16}
-use Rattle.apply_lent.specs.Values.{colorForValue}
+use Rattle.pixel_color.specs.Values.{colorForValue}
 use Rattle.legend_head.specs.Lent.{lentLegend}
 use borrow.Author.Needs.{needs}
-use Rattle.apply_lent.proofs.color_for_value_i16.Statement.{statement}
-use Rattle.apply_lent.proofs.color_for_value_i16.Tie as tie
+use Rattle.pixel_color.proofs.color_for_value_i16.Statement.{statement}
+use Rattle.pixel_color.proofs.color_for_value_i16.Tie as tie
 
 i16-to-f32-requires : tie.Need-i16-to-f32-requires
 i16-to-f32-requires c κs = search needs

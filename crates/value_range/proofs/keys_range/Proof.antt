@@ -9,11 +9,11 @@ use lib.Seq.{length-take-le}
 use mir.Syntax.{w64}
 use mir.Val.{toZ, ofZ}
 use Rattle.lookup_table.specs.Table.{smallest, largest}
-use Rattle.legend.specs.ValueRanges.{fromTo}
-use Rattle.legend.proofs.Ranging.{keys-none, keys-from-to, smallest-inside, largest-inside, same, fits}
+use Rattle.value_range.specs.ValueRanges.{fromTo}
+use Rattle.value_range.proofs.Ranging.{keys-none, keys-from-to, smallest-inside, largest-inside, same, fits}
 use borrow.Author.Needs.{needs}
-use Rattle.legend.proofs.keys_range.Statement.{statement}
-use Rattle.legend.proofs.keys_range.Tie as tie
+use Rattle.value_range.proofs.keys_range.Statement.{statement}
+use Rattle.value_range.proofs.keys_range.Tie as tie
 
 returns : tie.Need-returns
 returns c = keys-none (c .before .args .keys .now) (c .if1 .taken)

@@ -1,11 +1,11 @@
 -- `range_of` meets its contract. Assumes nothing.
 use mathlib.Core.Path.{sym, ap, _∙_}
-use Rattle.legend.specs.ValueRanges.{rangeIn}
+use Rattle.value_range.specs.ValueRanges.{rangeIn}
 use Rattle.legend.proofs.Stored.{bands-stored, categories-stored}
-use Rattle.legend.proofs.Ranging.{range-stored, range-keys}
+use Rattle.value_range.proofs.Ranging.{range-stored, range-keys}
 use borrow.Author.Needs.{needs}
-use Rattle.legend.proofs.range_of.Statement.{statement}
-use Rattle.legend.proofs.range_of.Tie as tie
+use Rattle.value_range.proofs.range_of.Statement.{statement}
+use Rattle.value_range.proofs.range_of.Tie as tie
 
 enum-told : tie.Need-enum-told
 enum-told c = search needs

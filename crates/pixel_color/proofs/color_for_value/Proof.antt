@@ -1,12 +1,12 @@
 -- `color_for_value` meets its contract. Assumes nothing.
 use mathlib.Core.Path.{sym, ap, _∙_}
 use Rattle.legend.specs.Painters.{painter}
-use Rattle.apply_lent.specs.declared.PixelColor.the-variants.{Color}
-use Rattle.apply_lent.specs.Values.{colorUnless, colorForValue}
+use Rattle.pixel_color.specs.declared.PixelColor.the-variants.{Color}
+use Rattle.pixel_color.specs.Values.{colorUnless, colorForValue}
 use Rattle.legend_head.specs.Lent.{lentLegend}
 use borrow.Author.Needs.{needs}
-use Rattle.apply_lent.proofs.color_for_value.Statement.{statement}
-use Rattle.apply_lent.proofs.color_for_value.Tie as tie
+use Rattle.pixel_color.proofs.color_for_value.Statement.{statement}
+use Rattle.pixel_color.proofs.color_for_value.Tie as tie
 
 stored-refusal-requires : tie.Need-stored-refusal-requires
 stored-refusal-requires c κs = search needs

@@ -13,12 +13,12 @@ use Rattle.band_lists.specs.declared.ValueRange.{ValueRange}
 use Rattle.banded.specs.Record.{counted}
 use Rattle.lookup_table.specs.Table.{smallest, largest}
 use Rattle.key_lists.specs.Keys.{keysRefusal}
 use Rattle.legend.specs.declared.LegendKind.{LegendKind}
 use Rattle.legend.specs.declared.LegendKind.the-variants as kind
 use Rattle.legend.specs.declared.Legend.{Legend}
-use Rattle.legend.specs.declared.TotalRange.{TotalRange}
-use Rattle.legend.specs.declared.TotalRange.the-variants as total
+use Rattle.value_range.specs.declared.TotalRange.{TotalRange}
+use Rattle.value_range.specs.declared.TotalRange.the-variants as total
 use Rattle.legend.specs.Record.{storedRefusal}
 
 abbrev pub fromTo : (start end : Float) → ValueRange
 fromTo start end = record { start = start; end = end }

@@ -3,8 +3,8 @@ use mathlib.Core.Path.{ap}
 use lib.ListN.{getD}
 use Rattle.paint_legend.specs.PlainOrLanes.{painted}
 use borrow.Author.Needs.{needs}
-use Rattle.apply_lent.proofs.pixel.Statement.{statement}
-use Rattle.apply_lent.proofs.pixel.Tie as tie
+use Rattle.pixel_color.proofs.pixel.Statement.{statement}
+use Rattle.pixel_color.proofs.pixel.Tie as tie
 
 slice-aggregate-paint : tie.Need-slice-aggregate-paint
 slice-aggregate-paint c = search needs

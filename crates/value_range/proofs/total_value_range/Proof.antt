@@ -1,10 +1,10 @@
 -- `total_value_range` meets its contract. Assumes nothing.
 use mathlib.Core.Path.{sym, ap, _∙_}
-use Rattle.legend.specs.declared.TotalRange.the-variants.{Range}
-use Rattle.legend.specs.ValueRanges.{rangeIn, rangeUnless, totalValueRange}
+use Rattle.value_range.specs.declared.TotalRange.the-variants.{Range}
+use Rattle.value_range.specs.ValueRanges.{rangeIn, rangeUnless, totalValueRange}
 use borrow.Author.Needs.{needs}
-use Rattle.legend.proofs.total_value_range.Statement.{statement}
-use Rattle.legend.proofs.total_value_range.Tie as tie
+use Rattle.value_range.proofs.total_value_range.Statement.{statement}
+use Rattle.value_range.proofs.total_value_range.Tie as tie
 
 range-refusal-requires : tie.Need-range-refusal-requires
 range-refusal-requires c κs = search needs

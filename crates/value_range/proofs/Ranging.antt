@@ -25,12 +25,12 @@ use Rattle.band_columns.proofs.Outer.{last-of}
 use Rattle.lookup_table.specs.Table.{foremost, smallest, largest}
 use Rattle.key_lists.specs.Keys.{outside, outsideFrom, keysRefusal}
 use Rattle.key_lists.proofs.Numbers.{back}
 use Rattle.legend.specs.declared.LegendKind.{LegendKind}
 use Rattle.legend.specs.declared.LegendKind.the-variants as kind
 use Rattle.legend.specs.declared.Legend.{Legend}
 use Rattle.legend.specs.Record.{storedRefusal}
 use Rattle.legend.proofs.Stored.{neither}
-use Rattle.legend.specs.ValueRanges.{fromTo, bandsRange, keysRange, keysIn, rangeRefusal}
+use Rattle.value_range.specs.ValueRanges.{fromTo, bandsRange, keysRange, keysIn, rangeRefusal}
 
 -- ---- bands
 -- the literal 0.0

@@ -2,10 +2,10 @@
 use mathlib.Core.Path.{sym, ap, _∙_}
 use Rattle.refusal.specs.Outcome.{firstOf}
 use Rattle.key_lists.specs.Keys.{keysRefusal}
-use Rattle.legend.specs.ValueRanges.{keysIn, rangeRefusal}
+use Rattle.value_range.specs.ValueRanges.{keysIn, rangeRefusal}
 use borrow.Author.Needs.{needs}
-use Rattle.legend.proofs.range_refusal.Statement.{statement}
-use Rattle.legend.proofs.range_refusal.Tie as tie
+use Rattle.value_range.proofs.range_refusal.Statement.{statement}
+use Rattle.value_range.proofs.range_refusal.Tie as tie
 
 stored-refusal-requires : tie.Need-stored-refusal-requires
 stored-refusal-requires c κs = search needs

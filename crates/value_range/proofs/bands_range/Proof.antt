@@ -2,11 +2,11 @@
 use mathlib.Core.Path.{_≡_}
 use native.Mathlib.Omega.{arith}
 use lib.ListN.{length}
-use Rattle.legend.proofs.Ranging.{bands-none, bands-from-to}
+use Rattle.value_range.proofs.Ranging.{bands-none, bands-from-to}
 use Rattle.band_columns.proofs.Past.{noBand}
 use borrow.Author.Needs.{needs}
-use Rattle.legend.proofs.bands_range.Statement.{statement}
-use Rattle.legend.proofs.bands_range.Tie as tie
+use Rattle.value_range.proofs.bands_range.Statement.{statement}
+use Rattle.value_range.proofs.bands_range.Tie as tie
 
 returns : tie.Need-returns
 returns c = bands-none (c .before .args .t1) (c .if1 .taken)

@@ -1,10 +1,10 @@
 -- `color_for_value_u8` meets its contract. Assumes nothing.
 use mathlib.Core.Path.{ap₂, _∙_}
-use Rattle.apply_lent.specs.Values.{colorForValue}
+use Rattle.pixel_color.specs.Values.{colorForValue}
 use Rattle.legend_head.specs.Lent.{lentLegend}
 use borrow.Author.Needs.{needs}
-use Rattle.apply_lent.proofs.color_for_value_u8.Statement.{statement}
-use Rattle.apply_lent.proofs.color_for_value_u8.Tie as tie
+use Rattle.pixel_color.proofs.color_for_value_u8.Statement.{statement}
+use Rattle.pixel_color.proofs.color_for_value_u8.Tie as tie
 
 u8-to-f32-requires : tie.Need-u8-to-f32-requires
 u8-to-f32-requires c κs = search needs

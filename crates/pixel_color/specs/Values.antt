@@ -7,8 +7,8 @@ use Rattle.cast.specs.declared.Nodata.{Nodata}
 use Rattle.legend.specs.declared.Legend.{Legend}
 use Rattle.legend.specs.Record.{storedRefusal}
 use Rattle.legend.specs.Painters.{painter}
-use Rattle.apply_lent.specs.declared.PixelColor.{PixelColor}
-use Rattle.apply_lent.specs.declared.PixelColor.the-variants as pixel
+use Rattle.pixel_color.specs.declared.PixelColor.{PixelColor}
+use Rattle.pixel_color.specs.declared.PixelColor.the-variants as pixel
 
 abbrev pub colorUnless : Answer → ℕ → PixelColor
 colorUnless answer.Done color = pixel.Color color

@@ -1,11 +1,11 @@
 -- `key_refusal` meets its contract. Assumes nothing.
 use mathlib.Core.Path.{sym, ap, _∙_}
 use Rattle.key_lists.specs.Keys.{outsideFrom, keysRefusal}
-use Rattle.legend.specs.ValueRanges.{keysIn}
+use Rattle.value_range.specs.ValueRanges.{keysIn}
 use Rattle.legend.proofs.Stored.{categories-stored}
 use borrow.Author.Needs.{needs}
-use Rattle.legend.proofs.key_refusal.Statement.{statement}
-use Rattle.legend.proofs.key_refusal.Tie as tie
+use Rattle.value_range.proofs.key_refusal.Statement.{statement}
+use Rattle.value_range.proofs.key_refusal.Tie as tie
 
 enum-told : tie.Need-enum-told
 enum-told c = search needs
