@@ -1,12 +1,15 @@
 -- What holds of a legend's head and its lent arrays holds of the legend. Assumes nothing.
-use mathlib.Core.Path.{_≡_, ap, subst}
+use mathlib.Core.Path.{_≡_, sym, ap, subst}
 use mathlib.Core.List.{List}
 use Prim.Native.Nat.{ℕ}
 use lib.Ieee.{Float}
 use Rattle.refusal.specs.declared.Answer.{Answer}
+use Rattle.refusal.specs.declared.Answer.the-variants.{Done}
 use Rattle.cast.specs.declared.Nodata.{Nodata}
+use Rattle.painting.specs.Painted.{plainPainted}
 use Rattle.painting.specs.Contracts.{PlainPainting, LanePainting}
 use Rattle.legend.specs.declared.Legend.{Legend}
+use Rattle.legend.specs.Record.{storedRefusal}
 use Rattle.legend.specs.Painters.{painter}
 use Rattle.legend_head.specs.declared.Head.{Head}
 use Rattle.legend_head.specs.Lent.{lentLegend, headOf}
@@ -26,3 +29,9 @@ module _ (l : Legend) (nodata : Nodata) {h : Head} (e : h ≡ headOf l) where
 
   pub sample : (v : Float) → colorForValue (again h) nodata v ≡ colorForValue l nodata v
   sample v = ap (λ (x : Head). colorForValue (again x) nodata v) e
+
+  pub rules : (xs : List Float) → plainPainted (painter (again h) nodata .plain) xs ≡ plainPainted (painter l nodata .plain) xs
+  rules xs = ap (λ (x : Head). plainPainted (painter (again x) nodata .plain) xs) e
+
+pub stored : (l : Legend) {h : Head} → h ≡ headOf l → storedRefusal l ≡ Done → storedRefusal (lentLegend h (l .linear .cmap) (l .categoric .keys) (l .categoric .colors) (l .categoric .lookup)) ≡ Done
+stored l e = subst (λ (x : Head). storedRefusal (lentLegend x (l .linear .cmap) (l .categoric .keys) (l .categoric .colors) (l .categoric .lookup)) ≡ Done) (sym e)

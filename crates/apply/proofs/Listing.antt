@@ -1,27 +1,20 @@
 -- The values of a list of colours, and the list. Assumes nothing.
 use mathlib.Core.Path.{_≡_, refl, sym, ap, _∙_}
-use mathlib.Core.Bool.{Bool, not}
 use mathlib.Core.List.{List, map}
-use borrow.Author.Tests.{eq-eqb}
 use Prim.Native.Nat.{ℕ}
 use lib.IntN.{pos}
 use lib.Ieee.{Float, binary32, add, sub, mul, div, ofInt, ofBits}
-use lib.Dec.{eqb}
-use lib.ListN.{length, replicate}
+use lib.ListN.{replicate}
 use Rattle.lists.specs.Tabulate.{tabulate}
 use Rattle.refusal.specs.declared.Refusal.{Refusal}
 use Rattle.refusal.specs.declared.Answer.{Answer}
 use Rattle.refusal.specs.declared.Answer.the-variants.{Done, Refused}
 use Rattle.refusal.proofs.Outcomes.{when-done, when-refused}
-use Rattle.refusal.specs.declared.Refusal.the-variants.{OutputLengthDiffers}
-use Rattle.refusal.specs.Outcome.{ifDone, refuseIf}
+use Rattle.refusal.specs.Outcome.{ifDone}
 use Rattle.cast.specs.declared.Nodata.the-variants.{Absent}
 use Rattle.band_lists.specs.declared.ValueRange.{ValueRange}
 use Rattle.legend.specs.declared.Legend.{Legend}
-use Rattle.painting.specs.Contracts.{PlainPainting, plainRefusal}
-use Rattle.legend.specs.Record.{storedRefusal}
 use Rattle.legend.specs.Painters.{painter}
-use Rattle.legend.proofs.AnyKind.{stored-is}
 use Rattle.value_range.specs.ValueRanges.{rangeIn, rangeRefusal}
 use Rattle.apply.specs.declared.ColorList.{ColorList}
 use Rattle.apply.specs.ColorLists.{valueAt, listColors, colorList}
@@ -48,10 +41,3 @@ module _ (l : Legend) {a : Answer} (e : a ≡ rangeRefusal l) where
       → words ≡ map (painter l Absent .plain) values → _≡_ {A = ColorList} (record { answer = a; colors = words }) (colorList l)
   unfolding listColors
   list-done h r v w = both (w ∙ ap (map (painter l Absent .plain)) (v ∙ ap (λ (x : ValueRange). tabulate 256 (valueAt x)) r) ∙ sym (when-done (listColors l) (replicate 256 0) (sym e ∙ h)))
-
--- a raster that is not refused is painted
-pub drawn : (l : Legend) {xs : List Float} {out out' : List ℕ} {answer : Answer} → PlainPainting (painter l Absent) xs out answer out' → storedRefusal l ≡ Done → length out ≡ length xs → out' ≡ map (painter l Absent .plain) xs
-unfolding plainRefusal
-drawn l {xs} {out} p s same =
-    let done = p .answered ∙ ap (λ (a : Answer). plainRefusal a (length xs) (length out)) (stored-is l Absent ∙ s) ∙ ap (λ (b : Bool). refuseIf (not b) OutputLengthDiffers Done) (eq-eqb (length out) (length xs) same) in
-    p .output ∙ when-done (map (painter l Absent .plain) xs) out done

@@ -221,7 +221,23 @@ pub fn color_list(legend: Legend) -> ColorList
         return ColorList { answer, colors };
     }
     let values = list_values(value_range::range_of(legend));
-    apply_to_data_scalar(legend, &values, Nodata::Absent, &mut colors);
+    let linear = legend.linear;
+    let categoric = legend.categoric;
+    let cmap = linear.cmap;
+    let keys = categoric.keys;
+    let words = categoric.colors;
+    let lookup = categoric.lookup;
+    let head = legend_head::head_of(legend);
+    paint_legend::paint(
+        head,
+        &cmap,
+        &keys,
+        &words,
+        &lookup,
+        Nodata::Absent,
+        &values,
+        &mut colors,
+    );
     ColorList { answer, colors }
 }
 

@@ -150,13 +150,15 @@ pub fn paint(
     ensures { λ _. ⌜ now (out .exit) ≡ painted (painter (lentLegend head (now (cmap .entry)) (now (keys .entry)) (now (colors .entry)) (now (lookup .entry))) nodata) 0 (now (src .entry)) ⌝ }
 {
     let config = head.mapping_config;
-    let banded = head.banded;
     let kind = head.kind;
     match kind {
         LegendKind::Linear => {
             paint_linear(head.start, head.end, cmap, config, nodata, 0, src, out)
         }
-        LegendKind::Banded => paint_banded(banded, config, nodata, 0, src, out),
+        LegendKind::Banded => {
+            let banded = head.banded;
+            paint_banded(banded, config, nodata, 0, src, out)
+        }
         LegendKind::CategoricNumeric => paint_categoric(
             keys,
             colors,
@@ -188,13 +190,15 @@ pub fn paint_simd(
     ensures { λ _. ⌜ now (out .exit) ≡ painted (painter (lentLegend head (now (cmap .entry)) (now (keys .entry)) (now (colors .entry)) (now (lookup .entry))) nodata) l (now (src .entry)) ⌝ }
 {
     let config = head.mapping_config;
-    let banded = head.banded;
     let kind = head.kind;
     match kind {
         LegendKind::Linear => {
             paint_linear(head.start, head.end, cmap, config, nodata, l, src, out)
         }
-        LegendKind::Banded => paint_banded(banded, config, nodata, l, src, out),
+        LegendKind::Banded => {
+            let banded = head.banded;
+            paint_banded(banded, config, nodata, l, src, out)
+        }
         LegendKind::CategoricNumeric => paint_categoric(
             keys,
             colors,

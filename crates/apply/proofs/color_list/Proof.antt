@@ -1,7 +1,10 @@
 -- `color_list` meets its contract. Assumes nothing.
 use mathlib.Core.Path.{sym, _∙_}
+use Rattle.cast.specs.declared.Nodata.the-variants.{Absent}
+use Rattle.paint_legend.specs.PlainOrLanes.{painted}
 use Rattle.value_range.proofs.Ranging.{range-stored}
-use Rattle.apply.proofs.Listing.{list-refused, list-done, drawn}
+use Rattle.apply.proofs.Lending.{stored, rules}
+use Rattle.apply.proofs.Listing.{list-refused, list-done}
 use borrow.Author.Needs.{needs}
 use Rattle.apply.proofs.color_list.Statement.{statement}
 use Rattle.apply.proofs.color_list.Tie as tie
@@ -24,17 +27,21 @@ range-of-requires c κs = sym (c .before .before .range-refusal .ensures) ∙ c 
 list-values-requires : tie.Need-list-values-requires
 list-values-requires c κs = search needs
 
-slice-aggregate-apply-to-data-scalar : tie.Need-slice-aggregate-apply-to-data-scalar
-slice-aggregate-apply-to-data-scalar c = search needs
+head-of-requires : tie.Need-head-of-requires
+head-of-requires c κs = search needs
 
-slice-aggregate-apply-to-data-scalar-2 : tie.Need-slice-aggregate-apply-to-data-scalar-2
-slice-aggregate-apply-to-data-scalar-2 c = search needs
+slice-aggregate-paint : tie.Need-slice-aggregate-paint
+slice-aggregate-paint c = search needs
 
-apply-to-data-scalar-requires : tie.Need-apply-to-data-scalar-requires
-apply-to-data-scalar-requires c κs = search needs
+slice-aggregate-paint-2 : tie.Need-slice-aggregate-paint-2
+slice-aggregate-paint-2 c = search needs
+
+paint-requires : tie.Need-paint-requires
+paint-requires c κs = let l = c .before .before .before .before .before .before .before .before .before .before .before .before .before .before .before .before .before .before .args .legend in (stored l (c .before .before .before .before .before .before .head-of .ensures) (range-stored l (sym (c .before .before .before .before .before .before .before .before .before .before .before .before .before .before .before .before .before .range-refusal .ensures) ∙ c .before .before .before .before .before .before .before .before .before .before .before .before .before .before .before .enum-told2 .given .1)), search needs)
 
 returns-2 : tie.Need-returns-2
-returns-2 c = let l = c .before .before .before .before .before .before .before .before .before .args .legend in let free = sym (c .before .before .before .before .before .before .before .before .range-refusal .ensures) ∙ c .before .before .before .before .before .before .enum-told2 .given .1 in list-done l (c .before .before .before .before .before .before .before .before .range-refusal .ensures) (c .before .before .before .before .before .before .enum-told2 .given .1) (c .before .before .before .before .before .range-of .ensures) (c .before .before .before .before .list-values .ensures) (drawn l (c .before .apply-to-data-scalar .ensures) (range-stored l free) (search needs))
+unfolding painted
+returns-2 c = let l = c .before .before .before .before .before .before .before .before .before .before .before .before .before .before .before .before .before .before .before .before .args .legend in list-done l (c .before .before .before .before .before .before .before .before .before .before .before .before .before .before .before .before .before .before .before .range-refusal .ensures) (c .before .before .before .before .before .before .before .before .before .before .before .before .before .before .before .before .before .enum-told2 .given .1) (c .before .before .before .before .before .before .before .before .before .before .before .before .before .before .before .before .range-of .ensures) (c .before .before .before .before .before .before .before .before .before .before .before .before .before .before .before .list-values .ensures) (c .before .paint .ensures ∙ rules l Absent (c .before .before .before .before .before .before .before .before .head-of .ensures) (c .before .before .before .before .before .before .before .before .before .before .before .before .before .before .before .list-values .result))
 
 pub color-list-spec : {M : Type 1} → statement M
-color-list-spec = tie.close (tie.spec range-refusal-requires enum-told returns enum-told-2 range-of-requires list-values-requires slice-aggregate-apply-to-data-scalar slice-aggregate-apply-to-data-scalar-2 apply-to-data-scalar-requires returns-2)
+color-list-spec = tie.close (tie.spec range-refusal-requires enum-told returns enum-told-2 range-of-requires list-values-requires head-of-requires slice-aggregate-paint slice-aggregate-paint-2 paint-requires returns-2)
