@@ -10,12 +10,12 @@ use lib.Dec.{T, ltb, ltb→lt, lt→ltb, nltb→le, lit<, lit≤, not-T}
 use lib.IntN.{ℤ, pos, negsuc}
 use lib.Ieee.{Float, nan, inf, fin, binary32, up, down, ofBits, lt, le, eq, ofInt}
 use lib.ListN.{getD}
-use lib.Ieee.Bits.{is-true, is-false}
+use lib.Ieee.Bits.{is-false}
 use lib.Ieee.Exact.{HasValue}
 use lib.Ieee.Fits.{down-pos, and-l, and-r}
 use lib.Ieee.Order.{le-of-values}
 use Rattle.floats.specs.RampIndex.{nought, floorOf}
-use Rattle.floats.proofs.Order.{lt-le, lt-lt, lt-irrefl-float}
+use Rattle.floats.proofs.Order.{or-l, lt-le, lt-lt, lt-irrefl-float}
 use Rattle.cast.specs.declared.Truncated.{Truncated}
 use Rattle.cast.specs.declared.Truncated.the-variants.{Whole, Outside}
 use Rattle.cast.specs.Truncated.{cut, truncated}
@@ -23,7 +23,11 @@ use Rattle.cast.proofs.Value.{nothing}
 use Rattle.cast.proofs.Lossless.{exact}
 use Rattle.cast.proofs.Table.{tableEnd, Missed, missed}
 use Rattle.categories.specs.Rule.{Rule, word, unknown, tableRule, ruleColor, tableColor}
-use Rattle.categories.specs.InTable.{minusOne, limit, inTable, kept}
+use Rattle.categories.specs.InTable.{minusOne, limit, inTable, raised, kept, arrayEnd, isPlace}
+
+by-cond : (P : Float → Type 0) (b : Bool) (x y : Float) → (T b → P x) → (T (not b) → P y) → P (cond b x y)
+by-cond P true x y f g = f tt
+by-cond P false x y f g = g tt
 
 -- ---- a float and the limit of a table
 both-ways : (a b : Bool) → (T a → T b) → (T b → T a) → a ≡ b
@@ -95,9 +99,6 @@ positive-rule size a c h C = go (ltb a (2 ^ 63 * c)) (nltb→le a (2 ^ 63 * c))
     go false n = sym (ap (λ (b : Bool). cond b (word (a / c)) unknown) (le-ltb (a / c) size (far (n tt))))
 
 -- ---- the test and the place
-from-zero : (m : ℕ) (e : ℤ) → le nought (fin false m e) ≡ true
-from-zero m e = is-true (le nought (fin false m e)) (le-of-values nought (fin false m e) 0 1 (m * up e) (down e) (lit< tt) (down-pos e) (refl, refl) (refl, refl) (omega arith))
-
 above-minus-one : (m : ℕ) (e : ℤ) → lt minusOne (fin false m e) ≡ true
 unfolding lt
 above-minus-one m e = lt-ltb 0 (1 * 1 * down e + m * up e * 1) (omega (arith, down-pos e))
@@ -109,27 +110,30 @@ empty-test v = is-false (lt minusOne v && lt v minusOne) (not-T (lt minusOne v &
 abbrev Looked : ℕ → Float → Type 0
 Looked size v = tableRule size (truncated v) ≡ cond (inTable size v) (word (floorOf (kept size v))) unknown
 
--- from 0 on: the test is that of the whole part, which is the place
+-- from 0 on: the test is that of the whole part, which is the place, raised or not
+raised-place : (m : ℕ) (e : ℤ) → floorOf (raised (fin false m e)) ≡ m * up e / down e
+unfolding lt
+raised-place m e = by-cond (λ x. floorOf x ≡ m * up e / down e) (lt nought (fin false m e)) (fin false m e) nought (λ t. refl) (λ t. omega (arith, none-whole t))
+  where
+    none-whole : T (not (lt nought (fin false m e))) → m * up e / down e < 1
+    none-whole t = div-lt-iff-lt-mul (down-pos e) .1 (let l = nltb→le (0 * 1 * down e) (m * up e * 1) t in omega (arith, down-pos e))
+
 positive-looked : (n m : ℕ) (e : ℤ) → suc n ≤ 513 → Looked (suc n) (fin false m e)
 unfolding truncated inTable kept
 positive-looked n m e h =
     positive-rule (suc n) (m * up e) (down e) h (down-pos e)
     ∙ chosen (ltb (m * up e / down e) (suc n))
-    ∙ sym (ap (λ (b : Bool). cond (b && ltb (m * up e / down e) (suc n)) (word (floorOf (cond (le nought (fin false m e) && ltb (m * up e / down e) (suc n)) (fin false m e) nought))) unknown) (above-minus-one m e))
-    ∙ sym (ap (λ (b : Bool). cond (lt minusOne (fin false m e) && b) (word (floorOf (cond (le nought (fin false m e) && b) (fin false m e) nought))) unknown) (whole-below m e (limit (suc n)) (suc n) (limit-value n h)))
+    ∙ sym (ap (λ (b : Bool). cond (b && ltb (m * up e / down e) (suc n)) (word (floorOf (raised (cond (ltb (m * up e / down e) (suc n)) (fin false m e) nought)))) unknown) (above-minus-one m e))
+    ∙ sym (ap (λ (b : Bool). cond (lt minusOne (fin false m e) && b) (word (floorOf (raised (cond b (fin false m e) nought)))) unknown) (whole-below m e (limit (suc n)) (suc n) (limit-value n h)))
   where
-    chosen : (b : Bool) → cond b (word (m * up e / down e)) unknown ≡ cond b (word (floorOf (cond (le nought (fin false m e) && b) (fin false m e) nought))) unknown
-    chosen true = sym (ap (λ (b : Bool). word (floorOf (cond (b && true) (fin false m e) nought))) (from-zero m e))
+    chosen : (b : Bool) → cond b (word (m * up e / down e)) unknown ≡ cond b (word (floorOf (raised (cond b (fin false m e) nought)))) unknown
+    chosen true = sym (ap word (raised-place m e))
     chosen false = refl
 
--- below 0: above -1 the number is 0, which is the place whether the sample is kept or not
+-- below 0: above -1 the number is 0, which is the place
 negative-place : (size m : ℕ) (e : ℤ) → floorOf (kept size (fin true m e)) ≡ 0
-unfolding kept
-negative-place size m e = go (le nought (fin true m e) && lt (fin true m e) (limit size))
-  where
-    go : (b : Bool) → floorOf (cond b (fin true m e) nought) ≡ 0
-    go true = refl
-    go false = refl
+unfolding kept lt
+negative-place size m e = by-cond (λ x. floorOf (raised x) ≡ 0) (lt (fin true m e) (limit size)) (fin true m e) nought (λ t. refl) (λ t. refl)
 
 near : (n m : ℕ) (e : ℤ) → T (lt minusOne (fin true m e)) → tableRule (suc n) (truncated (fin true m e)) ≡ word 0
 unfolding lt truncated tableRule
@@ -167,36 +171,47 @@ looked (suc n) h (inf false) = sym (ap (λ (b : Bool). cond b (word (floorOf (ke
 looked (suc n) h (fin true m e) = negative-looked n m e h
 looked (suc n) h (fin false m e) = positive-looked n m e h
 
--- ---- the place is one of the table's, and the float whose whole part it is can be read off
-limit-le : (size : ℕ) → size ≤ 513 → T (le (limit size) (fin false 1 (pos 10)))
+-- ---- what is kept is a place of the array, and a place is one whose whole part can be read off
+limit-le : (size : ℕ) → size ≤ 513 → T (le (limit size) arrayEnd)
 unfolding limit le lt eq
 limit-le zero h = tt
-limit-le (suc n) h = le-of-values (limit (suc n)) (fin false 1 (pos 10)) (suc n) 1 1024 1 (lit< tt) (lit< tt) (limit-value n h) (refl, refl) (omega arith)
+limit-le (suc n) h = le-of-values (limit (suc n)) arrayEnd (suc n) 1 513 1 (lit< tt) (lit< tt) (limit-value n h) (refl, refl) (omega arith)
 
-by-kept : (P : Float → Type 0) (b : Bool) (v : Float) → (T b → P v) → P nought → P (cond b v nought)
-by-kept P true v f z = f tt
-by-kept P false v f z = z
+both : (a b : Bool) → T a → T b → T (a && b)
+both true b s t = t
 
-module _ (size : ℕ) (h : size ≤ 513) (v : Float) where
-  pub kept-from : T (le nought (kept size v))
-  unfolding kept le lt eq
-  kept-from = by-kept (λ x. T (le nought x)) (le nought v && lt v (limit size)) v (and-l (le nought v) (lt v (limit size))) tt
+pub kept-place : (size : ℕ) → size ≤ 513 → (v : Float) → T (isPlace (kept size v))
+unfolding isPlace kept le lt eq
+kept-place size h v = by-cond (λ x. T (isPlace x)) (lt nought low) low nought (λ t. both (le nought low) (lt low arrayEnd) (or-l (lt nought low) (eq nought low) t) under) (λ t. tt)
+  where
+    low : Float
+    low = cond (lt v (limit size)) v nought
 
-  pub kept-below : T (lt (kept size v) (fin false 1 (pos 10)))
-  unfolding kept lt
-  kept-below = by-kept (λ x. T (lt x (fin false 1 (pos 10)))) (le nought v && lt v (limit size)) v (λ t. lt-le v (limit size) (fin false 1 (pos 10)) (and-r (le nought v) (lt v (limit size)) t) (limit-le size h)) tt
+    under : T (lt low arrayEnd)
+    under = by-cond (λ x. T (lt x arrayEnd)) (lt v (limit size)) v nought (λ t. lt-le v (limit size) arrayEnd t (limit-le size h)) (λ t. tt)
 
-place-in : (size : ℕ) → size ≤ 513 → (v : Float) → T (lt v (limit size)) → floorOf v < 513
-unfolding lt limit
-place-in size h nan t = absurd t
-place-in size h (inf s) t = lit< tt
-place-in size h (fin true m e) t = lit< tt
-place-in zero h (fin false m e) t = absurd t
-place-in (suc n) h (fin false m e) t = let l = ltb→lt (m * up e / down e) (suc n) (subst T (whole-below m e (limit (suc n)) (suc n) (limit-value n h)) t) in omega arith
+module _ (x : Float) (p : T (isPlace x)) where
+  pub place-from : T (le nought x)
+  unfolding isPlace
+  place-from = and-l (le nought x) (lt x arrayEnd) p
 
-pub place-lt : (size : ℕ) → size ≤ 513 → (v : Float) → floorOf (kept size v) < 513
-unfolding kept
-place-lt size h v = by-kept (λ x. floorOf x < 513) (le nought v && lt v (limit size)) v (λ t. place-in size h v (and-r (le nought v) (lt v (limit size)) t)) (lit< tt)
+  place-under : T (lt x arrayEnd)
+  unfolding isPlace
+  place-under = and-r (le nought x) (lt x arrayEnd) p
+
+  pub place-below : T (lt x (fin false 1 (pos 10)))
+  unfolding lt
+  place-below = lt-lt x arrayEnd (fin false 1 (pos 10)) place-under tt
+
+whole-in : (x : Float) → T (lt x arrayEnd) → floorOf x < 513
+unfolding lt
+whole-in nan t = absurd t
+whole-in (inf s) t = lit< tt
+whole-in (fin true m e) t = lit< tt
+whole-in (fin false m e) t = ltb→lt (m * up e / down e) 513 (subst T (whole-below m e arrayEnd 513 (refl, refl)) t)
+
+pub place-lt : (x : Float) → T (isPlace x) → floorOf x < 513
+place-lt x p = whole-in x (place-under x p)
 
 -- ---- a word looked up first and replaced outside
 pub chosen : (lookup : List ℕ) (size nodata : ℕ) → size ≤ 513 → (v : Float) → cond (inTable size v) (getD lookup (floorOf (kept size v)) 0) nodata ≡ tableColor lookup size nodata v

@@ -1,10 +1,11 @@
 -- The form in which the code looks a sample up in a table of `size` words: the test of the sample, and the float whose
 -- whole part is the place that the code reads whatever the test says. Definitions only.
 use Prim.Native.Nat.{ℕ, zero, suc}
-use mathlib.Core.Bool.{Bool, true, cond, _&&_}
+use mathlib.Core.Bool.{Bool, true, false, cond, _&&_}
 use lib.IntN.{pos}
-use lib.Ieee.{Float, fin, binary32, lt, le, ofInt}
+use lib.Ieee.{Float, fin, binary32, lt, le, ne, ofInt}
 use Rattle.floats.specs.RampIndex.{nought}
+use Rattle.colormapper.specs.declared.Exclusions.{Exclusions}
 
 abbrev pub minusOne : Float
 minusOne = fin true 1 (pos 0)
@@ -18,6 +19,21 @@ limit (suc n) = ofInt binary32 (pos (suc n))
 unfoldable pub inTable : (size : ℕ) → Float → Bool
 inTable size v = lt minusOne v && lt v (limit size)
 
+-- in the table and unlike both excluded values
+unfoldable pub shown : Exclusions → (size : ℕ) → Float → Bool
+shown e size v = (inTable size v && ne v (e .nodata)) && ne v (e .zero)
+
+-- not below 0
+abbrev pub raised : Float → Float
+raised x = cond (lt nought x) x nought
+
 -- the sample itself from 0 to below the size, else 0
 unfoldable pub kept : (size : ℕ) → Float → Float
-kept size v = cond (le nought v && lt v (limit size)) v nought
+kept size v = raised (cond (lt v (limit size)) v nought)
+
+-- from 0 to below 513, which is the number of an array's words
+abbrev pub arrayEnd : Float
+arrayEnd = fin false 513 (pos 0)
+
+unfoldable pub isPlace : Float → Bool
+isPlace x = le nought x && lt x arrayEnd

@@ -2,16 +2,18 @@
 // those of a record, and whoever uses a record has refused (16) one above capacity before: so the functions require that
 // a size is at most 513 and a count at most 256.
 use cast::Truncated;
+use colormapper::Exclusions;
 ghost use mathlib.Core.Path.{_≡_};
 ghost use mathlib.Core.Bool.{cond};
 ghost use mathlib.Core.List.{[]};
-ghost use Prim.Native.Nat.{_≤_, _<_};
+ghost use Prim.Native.Nat.{ℕ, _≤_, _<_};
+ghost use lib.Dec.{T};
 ghost use lib.Ieee.{nan};
 ghost use lib.ListN.{getD};
 ghost use Rattle.floats.specs.RampIndex.{floorOf};
 ghost use Rattle.lists.specs.Lanes.{Lanes};
 ghost use Rattle.categories.specs.Rule.{firstKey, ruleColor, keyColor};
-ghost use Rattle.categories.specs.InTable.{limit, inTable, kept};
+ghost use Rattle.categories.specs.InTable.{limit, inTable, shown, kept, isPlace};
 ghost use Rattle.categories.specs.Ascending.{ascends};
 
 // ---- with a table
@@ -19,36 +21,64 @@ ghost use Rattle.categories.specs.Ascending.{ascends};
 // A chunk's samples are looked up in two phases, `gather` and then `known` (proofs/Phases.antt): a load under a branch is
 // not vectorised. Painters call both with a literal lane count.
 
-// Each lane's word, the first for a sample outside.
+// Each lane's word, the first for a sample that is not from 0 to below the size.
 pub fn gather(lanes: usize, lookup: &[u32; 513], size: usize, value: [f32; 16]) -> [u32; 16]
     requires { ⌜ (lanes ≤ 16) × (size ≤ 513) ⌝ }
     ensures { λ r. ⌜ Lanes 0 lanes r (λ k. getD (now (lookup .entry)) (floorOf (kept size (getD value k nan))) 0) ⌝ }
 {
+    let places = clamped_lanes(lanes, size, value);
+    words_at(lanes, lookup, places)
+}
+
+// Each lane clamped. A loop of its own: with `words_at` it would be too long for the compiler to unroll, and so not vectorised.
+fn clamped_lanes(lanes: usize, size: usize, value: [f32; 16]) -> [f32; 16]
+    requires { ⌜ (lanes ≤ 16) × (size ≤ 513) ⌝ }
+    ensures { λ r. ⌜ Lanes nan lanes r (λ k. kept size (getD value k nan)) ⌝ }
+{
+    let mut result = [0.0f32; 16];
+    let mut i: usize = 0;
+    while i < lanes {
+        result[i] = clamped(size, value[i]);
+        i += 1;
+    }
+    result
+}
+
+// The words at the places' whole parts.
+fn words_at(lanes: usize, lookup: &[u32; 513], places: [f32; 16]) -> [u32; 16]
+    requires { ⌜ (lanes ≤ 16) × ((k : ℕ) → k < lanes → T (isPlace (getD places k nan))) ⌝ }
+    ensures { λ r. ⌜ Lanes 0 lanes r (λ k. getD (now (lookup .entry)) (floorOf (getD places k nan)) 0) ⌝ }
+{
     let mut result = [0u32; 16];
     let mut i: usize = 0;
     while i < lanes {
-        let index = table_index(size, value[i]);
+        let index = round::floor(places[i]);
         result[i] = lookup[index];
         i += 1;
     }
     result
 }
 
-// The words of the samples in the table, nodata for others.
+// The words of the samples in the table that are not excluded, nodata for others. A NaN is not in the table.
 pub fn known(
     lanes: usize,
     size: usize,
     nodata: u32,
+    exclusions: Exclusions,
     value: [f32; 16],
     words: [u32; 16],
 ) -> [u32; 16]
     requires { ⌜ (lanes ≤ 16) × (size ≤ 513) ⌝ }
-    ensures { λ r. ⌜ Lanes 0 lanes r (λ k. cond (inTable size (getD value k nan)) (getD words k 0) nodata) ⌝ }
+    ensures { λ r. ⌜ Lanes 0 lanes r (λ k. cond (shown exclusions size (getD value k nan)) (getD words k 0) nodata) ⌝ }
 {
+    let absent = exclusions.nodata;
+    let zero = exclusions.zero;
     let mut result = [0u32; 16];
     let mut i: usize = 0;
     while i < lanes {
-        result[i] = pick(in_table(size, value[i]), words[i], nodata);
+        let v = value[i];
+        let own = in_table(size, v) & (v != absent) & (v != zero);
+        result[i] = pick(own, words[i], nodata);
         i += 1;
     }
     result
@@ -62,21 +92,14 @@ fn in_table(size: usize, value: f32) -> bool
     (value > -1.0) & (value < limit_of(size))
 }
 
-// The place of a sample in the table, 0 for one outside.
-fn table_index(size: usize, value: f32) -> usize
-    requires { ⌜ size ≤ 513 ⌝ }
-    ensures { λ r. ⌜ (r ≡ floorOf (kept size value)) × (r < 513) ⌝ }
-{
-    round::floor(clamped(size, value))
-}
-
-// The sample from 0 to below the size, 0 for any other: one above -1 and below 0 is cut to 0, and the others are outside.
+// The sample itself from 0 to below the size, else 0. The first choice is by a test that `known` makes too, and in this
+// form the second is one instruction.
 fn clamped(size: usize, value: f32) -> f32
     requires { ⌜ size ≤ 513 ⌝ }
     ensures { λ r. ⌜ r ≡ kept size value ⌝ }
 {
-    let inside = (value >= 0.0) & (value < limit_of(size));
-    if inside { value } else { 0.0 }
+    let low = if value < limit_of(size) { value } else { 0.0 };
+    if low > 0.0 { low } else { 0.0 }
 }
 
 // The size as a float: a sample is compared before it is cut. An empty table has no sample below its limit and above -1.

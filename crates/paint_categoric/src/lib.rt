@@ -26,8 +26,7 @@ fn words4(lookup: &[u32; 513], size: usize, p: CategoricPaint, v: [f32; 16]) -> 
     ensures { λ d. ⌜ take 4 d ≡ tableChunk (now (lookup .entry)) size p (take 4 v) ⌝ }
 {
     let words = categories::gather(4, lookup, size, v);
-    let c = categories::known(4, size, p.nodata, v, words);
-    p.exclusions.masked_simd(4, v, p.nodata, c)
+    categories::known(4, size, p.nodata, p.exclusions, v, words)
 }
 
 fn words8(lookup: &[u32; 513], size: usize, p: CategoricPaint, v: [f32; 16]) -> [u32; 16]
@@ -35,8 +34,7 @@ fn words8(lookup: &[u32; 513], size: usize, p: CategoricPaint, v: [f32; 16]) -> 
     ensures { λ d. ⌜ take 8 d ≡ tableChunk (now (lookup .entry)) size p (take 8 v) ⌝ }
 {
     let words = categories::gather(8, lookup, size, v);
-    let c = categories::known(8, size, p.nodata, v, words);
-    p.exclusions.masked_simd(8, v, p.nodata, c)
+    categories::known(8, size, p.nodata, p.exclusions, v, words)
 }
 
 fn words16(lookup: &[u32; 513], size: usize, p: CategoricPaint, v: [f32; 16]) -> [u32; 16]
@@ -44,8 +42,7 @@ fn words16(lookup: &[u32; 513], size: usize, p: CategoricPaint, v: [f32; 16]) ->
     ensures { λ d. ⌜ take 16 d ≡ tableChunk (now (lookup .entry)) size p (take 16 v) ⌝ }
 {
     let words = categories::gather(16, lookup, size, v);
-    let c = categories::known(16, size, p.nodata, v, words);
-    p.exclusions.masked_simd(16, v, p.nodata, c)
+    categories::known(16, size, p.nodata, p.exclusions, v, words)
 }
 
 // ---- by a table: one chunk of a raster

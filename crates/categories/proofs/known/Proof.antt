@@ -7,24 +7,24 @@ use native.Mathlib.Omega.{arith}
 use lib.ListN.{getD}
 use lib.Ieee.{nan}
 use Rattle.lists.proofs.Filling.{Filling, filling-start, filling-turn, filling-end}
-use Rattle.categories.specs.InTable.{inTable}
+use Rattle.categories.specs.InTable.{shown}
 use Rattle.categories.proofs.known.Statement.{statement}
 use Rattle.categories.proofs.known.Tie as tie
 
 abbrev Inv-loop : tie.InvT-loop
-Inv-loop lanes size nodata value words result₀ i₀ result i = Filling 0 (λ k. cond (inTable size (getD value k nan)) (getD words k 0) nodata) 16 lanes i result
+Inv-loop lanes size nodata value words absent zero result₀ i₀ result i = Filling 0 (λ k. cond (shown (record { nodata = absent; zero = zero }) size (getD value k nan)) (getD words k 0) nodata) 16 lanes i result
 
 abbrev μ-loop : tie.MeasureT-loop
-μ-loop lanes size nodata value words result₀ i₀ result i = lanes - i
+μ-loop lanes size nodata value words absent zero result₀ i₀ result i = lanes - i
 
 loop-holds : tie.Need-loop-holds Inv-loop μ-loop
 loop-holds c = filling-start (search needs)
 
-mul-in-table : tie.Need-mul-in-table Inv-loop μ-loop
-mul-in-table c = search needs
+mul-v : tie.Need-mul-v Inv-loop μ-loop
+mul-v c = search needs
 
-array-read-in-table : tie.Need-array-read-in-table Inv-loop μ-loop
-array-read-in-table c = search needs
+array-read-v : tie.Need-array-read-v Inv-loop μ-loop
+array-read-v c = search needs
 
 in-table-requires : tie.Need-in-table-requires Inv-loop μ-loop
 in-table-requires c κs = search needs
@@ -51,6 +51,7 @@ loop-less : tie.Need-loop-less Inv-loop μ-loop
 loop-less c = search needs
 
 loop-again : tie.Need-loop-again Inv-loop μ-loop
+unfolding shown
 loop-again c = filling-turn (c .before .before .before .loop .inv) (omega arith) (omega arith) (c .pick .ensures ∙ cc (c .before .in-table .ensures))
 
 returns : tie.Need-returns Inv-loop μ-loop
@@ -63,8 +64,8 @@ known-spec =
     Inv-loop
     μ-loop
     loop-holds
-    mul-in-table
-    array-read-in-table
+    mul-v
+    array-read-v
     in-table-requires
     mul-pick
     array-read-pick

@@ -10,14 +10,11 @@ gather-requires c κs = search needs
 known-requires : tie.Need-known-requires
 known-requires c κs = search needs
 
-masked-simd-requires : tie.Need-masked-simd-requires
-masked-simd-requires c κs = search needs
-
 returns : tie.Need-returns
 returns c =
-    let s = c .before .before .before in
-    tabled 16 (s .args .lookup .now) (s .args .size) (s .args .p) (s .args .v) (c .before .before .gather .result) (c .before .known .result) (c .masked-simd .result)
-    (s .pre) (search needs) (search needs) (search needs) (c .before .before .gather .ensures) (c .before .known .ensures) (c .masked-simd .ensures)
+    let s = c .before .before in
+    tabled 16 (s .args .lookup .now) (s .args .size) (s .args .p) (s .args .v) (c .before .gather .result) (c .known .result)
+    (s .pre) (search needs) (search needs) (c .before .gather .ensures) (c .known .ensures)
 
 pub words16-spec : {M : Type 1} → statement M
-words16-spec = tie.close (tie.spec gather-requires known-requires masked-simd-requires returns)
+words16-spec = tie.close (tie.spec gather-requires known-requires returns)

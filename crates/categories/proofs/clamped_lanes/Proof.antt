@@ -1,0 +1,63 @@
+-- `clamped_lanes` meets its contract. Assumes nothing.
+use borrow.Author.Needs.{needs}
+use Prim.Native.Nat.{_-_}
+use native.Mathlib.Omega.{arith}
+use lib.ListN.{getD}
+use lib.Ieee.{nan}
+use Rattle.lists.proofs.Filling.{Filling, filling-start, filling-turn, filling-end}
+use Rattle.categories.specs.InTable.{kept}
+use Rattle.categories.proofs.clamped_lanes.Statement.{statement}
+use Rattle.categories.proofs.clamped_lanes.Tie as tie
+
+abbrev Inv-loop : tie.InvT-loop
+Inv-loop lanes size value result₀ i₀ result i = Filling nan (λ k. kept size (getD value k nan)) 16 lanes i result
+
+abbrev μ-loop : tie.MeasureT-loop
+μ-loop lanes size value result₀ i₀ result i = lanes - i
+
+loop-holds : tie.Need-loop-holds Inv-loop μ-loop
+loop-holds c = filling-start (search needs)
+
+mul-clamped : tie.Need-mul-clamped Inv-loop μ-loop
+mul-clamped c = search needs
+
+array-read-clamped : tie.Need-array-read-clamped Inv-loop μ-loop
+array-read-clamped c = search needs
+
+clamped-requires : tie.Need-clamped-requires Inv-loop μ-loop
+clamped-requires c κs = search needs
+
+mul-result : tie.Need-mul-result Inv-loop μ-loop
+mul-result c = search needs
+
+array-write-result : tie.Need-array-write-result Inv-loop μ-loop
+array-write-result c = search needs
+
+add-i : tie.Need-add-i Inv-loop μ-loop
+add-i c = search needs
+
+loop-less : tie.Need-loop-less Inv-loop μ-loop
+loop-less c = search needs
+
+loop-again : tie.Need-loop-again Inv-loop μ-loop
+loop-again c = filling-turn (c .before .before .loop .inv) (omega arith) (omega arith) (c .clamped .ensures)
+
+returns : tie.Need-returns Inv-loop μ-loop
+returns c = filling-end (c .before .loop .inv) (omega arith)
+
+pub clamped-lanes-spec : {M : Type 1} → statement M
+clamped-lanes-spec =
+    tie.close
+    (tie.spec
+    Inv-loop
+    μ-loop
+    loop-holds
+    mul-clamped
+    array-read-clamped
+    clamped-requires
+    mul-result
+    array-write-result
+    add-i
+    loop-less
+    loop-again
+    returns)
