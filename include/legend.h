@@ -223,8 +223,8 @@ LegendMade legend_create_categoric_for_value_range_from_ramp(const uint32_t ramp
  * Each is refused by 100 for a flag of the legend, by 101 for its kind, by 100 for `nodata_given` where there is one,
  * by 16 for a stored count; then as its line says. `nodata` counts where `nodata_given` is 1.
  *
- * Painting and the colour of a sample take a pointer to the legend: its arrays are lent to the library's own calls, the
- * legend_lent_ ones below, and none is copied. */
+ * Painting and the colour of a sample take a pointer to the legend: its ramp, its keys with their colours and its table
+ * are lent to the library's own calls, the legend_lent_ ones below, and are not copied. */
 
 /* What is neither an array of a legend nor its bands. */
 typedef struct LegendHead {
@@ -242,7 +242,7 @@ static inline LegendHead legend_head(const LegendRecord *legend) {
     return head;
 }
 
-/* A legend as the legend_lent_ calls take it: their first six arguments. */
+/* A legend as the legend_lent_ calls take it: their first six arguments, each of which reads the pointer given. */
 #define LEGEND_LENT(legend)                                                                             \
     legend_head(legend), (legend)->banded, (legend)->linear.cmap, (legend)->categoric.keys,             \
         (legend)->categoric.colors, (legend)->categoric.lookup

@@ -1,6 +1,6 @@
 -- Keys ascend where each is below the next; then each is below all after it. Assumes nothing.
-use mathlib.Core.Path.{_≡_, refl, sym, subst}
-use mathlib.Core.Bool.{true, not, _&&_}
+use mathlib.Core.Path.{_≡_, refl, sym, subst, ap, ap₂, _∙_}
+use mathlib.Core.Bool.{Bool, true, false, not, _&&_}
 use mathlib.Core.List.{List}
 use mathlib.Core.Logic.{⊎-elim}
 use Prim.Native.Nat.{ℕ, zero, suc, _+_, _-_, _≤_, _<_}
@@ -65,3 +65,33 @@ unfolding ascends
 few keys zero h = refl
 few keys (suc zero) h = refl
 few keys (suc (suc i)) h = absurd (omega arith)
+
+-- where some of the keys do not ascend, more do not either
+pub never-again : (keys : List ℤ) (i k : ℕ) → 0 < i → ascends keys i ≡ false → ascends keys (i + k) ≡ false
+never-again keys i zero p e = let g : i + zero ≡ i = omega arith in ap (ascends keys) g ∙ e
+never-again keys i (suc k) p e =
+    let g : i + suc k ≡ i + k + 1 = omega arith in
+    ap (ascends keys) g ∙ one-more keys (i + k) (omega arith) ∙ ap (λ (b : Bool). b && ltZ (getD keys (i + k - 1) (pos 0)) (getD keys (i + k) (pos 0))) (never-again keys i k p e)
+
+-- ---- the next pair, as the code compares it
+not-below : (b : Bool) → not b ≡ true → b ≡ false
+not-below true e = sym e
+not-below false e = refl
+
+is-below : (b : Bool) → not b ≡ false → b ≡ true
+is-below true e = refl
+is-below false e = sym e
+
+and-no : (a : Bool) → (a && false) ≡ false
+and-no true = refl
+and-no false = refl
+
+module _ (keys : List ℤ) (i : ℕ) (p : 0 < i) {x y : ℤ} (e : x ≡ getD keys (i - 1) (pos 0)) (f : y ≡ getD keys i (pos 0)) where
+  pub stops : (count : ℕ) → i < count → not (ltZ x y) ≡ true → ascends keys count ≡ false
+  stops count q h =
+      let g : i + 1 + (count - (i + 1)) ≡ count = omega arith in
+      let fell : ascends keys (i + 1) ≡ false = one-more keys i p ∙ ap (λ (b : Bool). ascends keys i && b) (sym (ap₂ ltZ e f) ∙ not-below (ltZ x y) h) ∙ and-no (ascends keys i) in
+      sym (ap (ascends keys) g) ∙ never-again keys (i + 1) (count - (i + 1)) (omega arith) fell
+
+  pub goes-on : ascends keys i ≡ true → not (ltZ x y) ≡ false → ascends keys (i + 1) ≡ true
+  goes-on up h = one-more keys i p ∙ ap₂ (λ (a b : Bool). a && b) up (sym (ap₂ ltZ e f) ∙ is-below (ltZ x y) h)
