@@ -13,8 +13,6 @@ use Rattle.legend.specs.Record.{storedRefusal}
 use Rattle.legend.specs.Painters.{painter}
 use Rattle.legend_head.specs.declared.Head.{Head}
 use Rattle.legend_head.specs.Lent.{lentLegend, headOf}
-use Rattle.pixel_color.specs.declared.PixelColor.{PixelColor}
-use Rattle.pixel_color.specs.Values.{colorForValue}
 
 module _ (l : Legend) (nodata : Nodata) {h : Head} (e : h ≡ headOf l) where
   abbrev again : Head → Legend
@@ -26,9 +24,6 @@ module _ (l : Legend) (nodata : Nodata) {h : Head} (e : h ≡ headOf l) where
   pub in-lanes : {L : ℕ} {xs : List Float} {out scratch out' scratch' : List ℕ} {answer : Answer} → LanePainting (painter (again h) nodata) L xs out scratch answer out' scratch'
       → LanePainting (painter l nodata) L xs out scratch answer out' scratch'
   in-lanes {L} {xs} {out} {scratch} {out'} {scratch'} {answer} = subst (λ (x : Head). LanePainting (painter (again x) nodata) L xs out scratch answer out' scratch') e
-
-  pub sample : (v : Float) → colorForValue (again h) nodata v ≡ colorForValue l nodata v
-  sample v = ap (λ (x : Head). colorForValue (again x) nodata v) e
 
   pub rules : (xs : List Float) → plainPainted (painter (again h) nodata .plain) xs ≡ plainPainted (painter l nodata .plain) xs
   rules xs = ap (λ (x : Head). plainPainted (painter (again x) nodata .plain) xs) e

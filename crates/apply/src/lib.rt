@@ -1,20 +1,13 @@
-// What a legend that is there by value is used for (docs/RULES.md, "Painting"): its arrays are lent to the calls of `apply_lent`. The
-// list of its colours.
+// Painting f32 rasters by a legend that is there by value (docs/RULES.md, "Painting"): its arrays are lent to the calls of `apply_lent`.
+// The list of its colours.
 use band_lists::ValueRange;
 use cast::Nodata;
-use cast::NodataI16;
-use cast::NodataU8;
 use legend::Legend;
-use pixel_color::PixelColor;
 use refusal::Answer;
 ghost use mathlib.Core.Path.{_≡_};
-ghost use mathlib.Core.List.{map};
 ghost use Rattle.lists.specs.Tabulate.{tabulate};
-ghost use Rattle.cast.specs.Samples.{ofU8, ofI16};
-ghost use Rattle.cast.specs.Nodata.{nodataU8, nodataI16};
 ghost use Rattle.painting.specs.Contracts.{PlainPainting, LanePainting};
 ghost use Rattle.legend.specs.Painters.{painter};
-ghost use Rattle.pixel_color.specs.Values.{colorForValue};
 ghost use Rattle.apply.specs.ColorLists.{valueAt, colorList};
 
 // 256 colours from the lowest to the highest value, TRANSPARENT throughout beside a refusal.
@@ -23,7 +16,7 @@ pub struct ColorList {
     pub colors: [u32; 256],
 }
 
-// ---- plain painting
+// ---- painting
 
 pub fn apply_to_data_scalar(legend: Legend, src: &[f32], nodata: Nodata, out: &mut [u32]) -> Answer
     ensures { λ r. ⌜ PlainPainting (painter legend nodata) (now (src .entry)) (now (out .entry)) r (now (out .exit)) ⌝ }
@@ -37,44 +30,6 @@ pub fn apply_to_data_scalar(legend: Legend, src: &[f32], nodata: Nodata, out: &m
     let head = legend_head::head_of(legend);
     apply_lent::apply_to_data_scalar(head, &cmap, &keys, &colors, &lookup, src, nodata, out)
 }
-
-pub fn apply_to_data_scalar_u8(
-    legend: Legend,
-    src: &[u8],
-    nodata: NodataU8,
-    out: &mut [u32],
-) -> Answer
-    ensures { λ r. ⌜ PlainPainting (painter legend (nodataU8 nodata)) (map ofU8 (now (src .entry))) (now (out .entry)) r (now (out .exit)) ⌝ }
-{
-    let linear = legend.linear;
-    let categoric = legend.categoric;
-    let cmap = linear.cmap;
-    let keys = categoric.keys;
-    let colors = categoric.colors;
-    let lookup = categoric.lookup;
-    let head = legend_head::head_of(legend);
-    apply_lent::apply_to_data_scalar_u8(head, &cmap, &keys, &colors, &lookup, src, nodata, out)
-}
-
-pub fn apply_to_data_scalar_i16(
-    legend: Legend,
-    src: &[i16],
-    nodata: NodataI16,
-    out: &mut [u32],
-) -> Answer
-    ensures { λ r. ⌜ PlainPainting (painter legend (nodataI16 nodata)) (map ofI16 (now (src .entry))) (now (out .entry)) r (now (out .exit)) ⌝ }
-{
-    let linear = legend.linear;
-    let categoric = legend.categoric;
-    let cmap = linear.cmap;
-    let keys = categoric.keys;
-    let colors = categoric.colors;
-    let lookup = categoric.lookup;
-    let head = legend_head::head_of(legend);
-    apply_lent::apply_to_data_scalar_i16(head, &cmap, &keys, &colors, &lookup, src, nodata, out)
-}
-
-// ---- lane painting
 
 pub fn apply_to_data_kernel(
     legend: Legend,
@@ -105,109 +60,6 @@ pub fn apply_to_data_kernel(
         out,
         scratch,
     )
-}
-
-pub fn apply_to_data_kernel_u8(
-    legend: Legend,
-    lanes: usize,
-    src: &[u8],
-    nodata: NodataU8,
-    out: &mut [u32],
-    scratch: &mut [u32],
-) -> Answer
-    ensures { λ r. ⌜ LanePainting (painter legend (nodataU8 nodata)) lanes (map ofU8 (now (src .entry))) (now (out .entry)) (now (scratch .entry)) r (now (out .exit)) (now (scratch .exit)) ⌝ }
-{
-    let linear = legend.linear;
-    let categoric = legend.categoric;
-    let cmap = linear.cmap;
-    let keys = categoric.keys;
-    let colors = categoric.colors;
-    let lookup = categoric.lookup;
-    let head = legend_head::head_of(legend);
-    apply_lent::apply_to_data_kernel_u8(
-        head,
-        &cmap,
-        &keys,
-        &colors,
-        &lookup,
-        lanes,
-        src,
-        nodata,
-        out,
-        scratch,
-    )
-}
-
-pub fn apply_to_data_kernel_i16(
-    legend: Legend,
-    lanes: usize,
-    src: &[i16],
-    nodata: NodataI16,
-    out: &mut [u32],
-    scratch: &mut [u32],
-) -> Answer
-    ensures { λ r. ⌜ LanePainting (painter legend (nodataI16 nodata)) lanes (map ofI16 (now (src .entry))) (now (out .entry)) (now (scratch .entry)) r (now (out .exit)) (now (scratch .exit)) ⌝ }
-{
-    let linear = legend.linear;
-    let categoric = legend.categoric;
-    let cmap = linear.cmap;
-    let keys = categoric.keys;
-    let colors = categoric.colors;
-    let lookup = categoric.lookup;
-    let head = legend_head::head_of(legend);
-    apply_lent::apply_to_data_kernel_i16(
-        head,
-        &cmap,
-        &keys,
-        &colors,
-        &lookup,
-        lanes,
-        src,
-        nodata,
-        out,
-        scratch,
-    )
-}
-
-// ---- the colour of one sample
-
-pub fn color_for_value(legend: Legend, value: f32, nodata: Nodata) -> PixelColor
-    ensures { λ r. ⌜ r ≡ colorForValue legend nodata value ⌝ }
-{
-    let linear = legend.linear;
-    let categoric = legend.categoric;
-    let cmap = linear.cmap;
-    let keys = categoric.keys;
-    let colors = categoric.colors;
-    let lookup = categoric.lookup;
-    let head = legend_head::head_of(legend);
-    pixel_color::color_for_value(head, &cmap, &keys, &colors, &lookup, value, nodata)
-}
-
-pub fn color_for_value_u8(legend: Legend, value: u8, nodata: NodataU8) -> PixelColor
-    ensures { λ r. ⌜ r ≡ colorForValue legend (nodataU8 nodata) (ofU8 value) ⌝ }
-{
-    let linear = legend.linear;
-    let categoric = legend.categoric;
-    let cmap = linear.cmap;
-    let keys = categoric.keys;
-    let colors = categoric.colors;
-    let lookup = categoric.lookup;
-    let head = legend_head::head_of(legend);
-    pixel_color::color_for_value_u8(head, &cmap, &keys, &colors, &lookup, value, nodata)
-}
-
-pub fn color_for_value_i16(legend: Legend, value: i16, nodata: NodataI16) -> PixelColor
-    ensures { λ r. ⌜ r ≡ colorForValue legend (nodataI16 nodata) (ofI16 value) ⌝ }
-{
-    let linear = legend.linear;
-    let categoric = legend.categoric;
-    let cmap = linear.cmap;
-    let keys = categoric.keys;
-    let colors = categoric.colors;
-    let lookup = categoric.lookup;
-    let head = legend_head::head_of(legend);
-    pixel_color::color_for_value_i16(head, &cmap, &keys, &colors, &lookup, value, nodata)
 }
 
 // ---- the list of colours

@@ -1,6 +1,7 @@
 // Replays the stored answers of the Rust: every row of answers.bin is worked out anew and compared (README.md).
 // Prints a line for each kind of row, and the totals.
 mod build;
+mod by_value;
 mod leaves;
 mod paint;
 mod place;

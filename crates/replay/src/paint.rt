@@ -1,5 +1,6 @@
 // Rows of legends: the builder's answer, the range of values, the list of colours, and every painting of the samples.
 use crate::build;
+use crate::by_value;
 use crate::place;
 use crate::row;
 use cast::Nodata;
@@ -126,7 +127,7 @@ fn values_f32(legend: Legend, samples: [f32; 16], nodata: Nodata, row: &[u32; 16
     let mut i: usize = 0;
     while i < count {
         if !is_color(
-            apply::color_for_value(legend, samples[i], nodata),
+            by_value::color_for_value(legend, samples[i], nodata),
             row[place::PLAIN + i],
         ) {
             return false;
@@ -166,7 +167,7 @@ fn nodata_u8(row: &[u32; 160]) -> NodataU8 {
 fn plain_u8(legend: Legend, samples: [u8; 16], nodata: NodataU8, row: &[u32; 160]) -> bool {
     let count = row::at_most_16(row[place::SAMPLE_COUNT]);
     let mut colors = [0u32; 16];
-    let answer = apply::apply_to_data_scalar_u8(
+    let answer = by_value::apply_to_data_scalar_u8(
         legend,
         &samples[..count],
         nodata,
@@ -188,7 +189,7 @@ fn lanes_u8(
     let count = row::at_most_16(row[place::SAMPLE_COUNT]);
     let mut colors = [0u32; 16];
     let mut scratch = [0u32; 16];
-    let answer = apply::apply_to_data_kernel_u8(
+    let answer = by_value::apply_to_data_kernel_u8(
         legend,
         lanes,
         &samples[..count],
@@ -204,7 +205,7 @@ fn values_u8(legend: Legend, samples: [u8; 16], nodata: NodataU8, row: &[u32; 16
     let mut i: usize = 0;
     while i < count {
         if !is_color(
-            apply::color_for_value_u8(legend, samples[i], nodata),
+            by_value::color_for_value_u8(legend, samples[i], nodata),
             row[place::PLAIN + i],
         ) {
             return false;
@@ -237,7 +238,7 @@ fn nodata_i16(row: &[u32; 160]) -> NodataI16 {
 fn plain_i16(legend: Legend, samples: [i16; 16], nodata: NodataI16, row: &[u32; 160]) -> bool {
     let count = row::at_most_16(row[place::SAMPLE_COUNT]);
     let mut colors = [0u32; 16];
-    let answer = apply::apply_to_data_scalar_i16(
+    let answer = by_value::apply_to_data_scalar_i16(
         legend,
         &samples[..count],
         nodata,
@@ -259,7 +260,7 @@ fn lanes_i16(
     let count = row::at_most_16(row[place::SAMPLE_COUNT]);
     let mut colors = [0u32; 16];
     let mut scratch = [0u32; 16];
-    let answer = apply::apply_to_data_kernel_i16(
+    let answer = by_value::apply_to_data_kernel_i16(
         legend,
         lanes,
         &samples[..count],
@@ -275,7 +276,7 @@ fn values_i16(legend: Legend, samples: [i16; 16], nodata: NodataI16, row: &[u32;
     let mut i: usize = 0;
     while i < count {
         if !is_color(
-            apply::color_for_value_i16(legend, samples[i], nodata),
+            by_value::color_for_value_i16(legend, samples[i], nodata),
             row[place::PLAIN + i],
         ) {
             return false;
