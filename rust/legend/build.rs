@@ -1,5 +1,5 @@
-//! Finds liblegend_c.a, and makes it where it is missing or older than its source: `rt staticlib legend_c` proves the
-//! library and compiles it. LEGEND_STATICLIB may name a folder that has it.
+//! Finds liblegend_c.a, and makes it where it is missing or older than its source: the repository's `library` proves
+//! and compiles it. LEGEND_STATICLIB may name a folder that has it.
 
 use std::path::{Path, PathBuf};
 use std::process::Command;
@@ -7,6 +7,8 @@ use std::time::SystemTime;
 use std::{env, fs};
 
 const ARCHIVE: &str = "liblegend_c.a";
+/// What a shell answers where a command, here rt, is not there.
+const NO_SUCH_COMMAND: i32 = 127;
 
 fn main() {
     println!("cargo:rerun-if-env-changed=LEGEND_STATICLIB");
@@ -32,21 +34,18 @@ fn made() -> PathBuf {
     let crates = repository.join("crates");
     println!("cargo:rerun-if-changed={}", crates.display());
     println!("cargo:rerun-if-changed={}", repository.join("crates.txt").display());
+    println!("cargo:rerun-if-changed={}", repository.join("library").display());
     if changed(&folder.join(ARCHIVE)).is_some_and(|made| sources(&crates).all(|source| changed(&source) <= Some(made)))
     {
         return folder;
     }
-    match Command::new("rt").args(["staticlib", "legend_c"]).current_dir(&repository).output() {
-        Ok(run) if run.status.success() => (),
-        Ok(run) => {
-            let said = String::from_utf8_lossy(&run.stdout);
-            let end: Vec<_> = said.lines().rev().take(20).collect();
-            panic!("rt staticlib legend_c failed:\n{}", end.into_iter().rev().collect::<Vec<_>>().join("\n"));
-        }
-        Err(_) if folder.join(ARCHIVE).is_file() => {
-            println!("cargo:warning=rt is not here: {ARCHIVE} is linked as it is, older than its source");
-        }
-        Err(error) => panic!("no {ARCHIVE}, and rt cannot be run to make it: {error}"),
+    let run = Command::new(repository.join("library")).output().expect("`library` can be run");
+    if run.status.code() == Some(NO_SUCH_COMMAND) && folder.join(ARCHIVE).is_file() {
+        println!("cargo:warning=rt is not here: {ARCHIVE} is linked as it is, older than its source");
+    } else if !run.status.success() {
+        let said = [run.stdout, run.stderr].map(|text| String::from_utf8_lossy(&text).into_owned()).concat();
+        let end: Vec<_> = said.lines().rev().take(20).collect();
+        panic!("no {ARCHIVE}; `library` failed:\n{}", end.into_iter().rev().collect::<Vec<_>>().join("\n"));
     }
     folder
 }

@@ -1,0 +1,36 @@
+-- `legend_create_banded_manual_ranges_from_ramp` meets its contract. Assumes nothing.
+use mathlib.Core.Path.{ap, _∙_}
+use Rattle.legend.specs.Building.{madeBanded}
+use Rattle.c_records.specs.Records.{madeUnless}
+use Rattle.c_types.proofs.Unless.{unless}
+use borrow.Author.Needs.{needs}
+use Rattle.c_builders.proofs.legend_create_banded_manual_ranges_from_ramp.Statement.{
+  statement,
+}
+use Rattle.c_builders.proofs.legend_create_banded_manual_ranges_from_ramp.Tie as tie
+
+settings-of-requires : tie.Need-settings-of-requires
+settings-of-requires c κs = search needs
+
+create-banded-manual-ranges-from-ramp-requires :
+    tie.Need-create-banded-manual-ranges-from-ramp-requires
+create-banded-manual-ranges-from-ramp-requires c κs = search needs
+
+settings-form-requires : tie.Need-settings-form-requires
+settings-form-requires c κs = search needs
+
+made-unless-requires : tie.Need-made-unless-requires
+made-unless-requires c κs = search needs
+
+returns : tie.Need-returns
+returns c = unless madeUnless (c .made-unless .ensures) (c .before .settings-form .ensures) (c .before .before .create-banded-manual-ranges-from-ramp .ensures ∙ ap (madeBanded _) (c .before .before .before .settings-of .ensures))
+
+pub legend-create-banded-manual-ranges-from-ramp-spec : {M : Type 1} → statement M
+legend-create-banded-manual-ranges-from-ramp-spec =
+    tie.close
+    (tie.spec
+    settings-of-requires
+    create-banded-manual-ranges-from-ramp-requires
+    settings-form-requires
+    made-unless-requires
+    returns)

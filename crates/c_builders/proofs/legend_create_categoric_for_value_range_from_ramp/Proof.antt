@@ -1,0 +1,38 @@
+-- `legend_create_categoric_for_value_range_from_ramp` meets its contract. Assumes nothing.
+use mathlib.Core.Path.{_∙_}
+use Rattle.legend.specs.Building.{madeCategoric}
+use Rattle.c_records.specs.Records.{madeUnless}
+use Rattle.c_types.proofs.Unless.{unless}
+use Rattle.catgegoric.specs.Made.{forValueRangeFromRamp}
+use Rattle.key_lists.proofs.Numbers.{back₂}
+use borrow.Author.Needs.{needs}
+use Rattle.c_builders.proofs.legend_create_categoric_for_value_range_from_ramp.Statement.{
+  statement,
+}
+use Rattle.c_builders.proofs.legend_create_categoric_for_value_range_from_ramp.Tie as tie
+
+settings-of-requires : tie.Need-settings-of-requires
+settings-of-requires c κs = search needs
+
+create-categoric-for-value-range-from-ramp-requires :
+    tie.Need-create-categoric-for-value-range-from-ramp-requires
+create-categoric-for-value-range-from-ramp-requires c κs = search needs
+
+settings-form-requires : tie.Need-settings-form-requires
+settings-form-requires c κs = search needs
+
+made-unless-requires : tie.Need-made-unless-requires
+made-unless-requires c κs = search needs
+
+returns : tie.Need-returns
+returns c = let s = c .before .before .before .before in unless madeUnless (c .made-unless .ensures) (c .before .settings-form .ensures) (c .before .before .create-categoric-for-value-range-from-ramp .ensures ∙ (λ j. madeCategoric (back₂ (λ a b. forValueRangeFromRamp a b (s .args .ramp .now)) (s .args .start) (s .args .end) (s .fits .start .sfits) (s .fits .end .sfits) j) (c .before .before .before .settings-of .ensures j)))
+
+pub legend-create-categoric-for-value-range-from-ramp-spec : {M : Type 1} → statement M
+legend-create-categoric-for-value-range-from-ramp-spec =
+    tie.close
+    (tie.spec
+    settings-of-requires
+    create-categoric-for-value-range-from-ramp-requires
+    settings-form-requires
+    made-unless-requires
+    returns)

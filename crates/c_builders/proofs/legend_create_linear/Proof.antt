@@ -1,0 +1,33 @@
+-- `legend_create_linear` meets its contract. Assumes nothing.
+use mathlib.Core.Path.{ap, _∙_}
+use Rattle.legend.specs.Building.{madeLinear}
+use Rattle.c_records.specs.Records.{madeUnless}
+use Rattle.c_types.proofs.Unless.{unless}
+use borrow.Author.Needs.{needs}
+use Rattle.c_builders.proofs.legend_create_linear.Statement.{statement}
+use Rattle.c_builders.proofs.legend_create_linear.Tie as tie
+
+settings-of-requires : tie.Need-settings-of-requires
+settings-of-requires c κs = search needs
+
+create-linear-requires : tie.Need-create-linear-requires
+create-linear-requires c κs = search needs
+
+settings-form-requires : tie.Need-settings-form-requires
+settings-form-requires c κs = search needs
+
+made-unless-requires : tie.Need-made-unless-requires
+made-unless-requires c κs = search needs
+
+returns : tie.Need-returns
+returns c = unless madeUnless (c .made-unless .ensures) (c .before .settings-form .ensures) (c .before .before .create-linear .ensures ∙ ap (madeLinear _) (c .before .before .before .settings-of .ensures))
+
+pub legend-create-linear-spec : {M : Type 1} → statement M
+legend-create-linear-spec =
+    tie.close
+    (tie.spec
+    settings-of-requires
+    create-linear-requires
+    settings-form-requires
+    made-unless-requires
+    returns)

@@ -1,0 +1,18 @@
+-- `keys::legend_to_i64` meets its contract. Assumes nothing.
+use Rattle.c_answers.specs.Keys.{keyOf}
+use mathlib.Core.Path.{ap, _∙_}
+use borrow.Author.Needs.{needs}
+use Rattle.c_queries.proofs.keys.legend_to_i64.Statement.{statement}
+use Rattle.c_queries.proofs.keys.legend_to_i64.Tie as tie
+
+to-i64-requires : tie.Need-to-i64-requires
+to-i64-requires c κs = search needs
+
+key-told-requires : tie.Need-key-told-requires
+key-told-requires c κs = search needs
+
+returns : tie.Need-returns
+returns c = c .key-told .ensures ∙ ap keyOf (c .before .to-i64 .ensures)
+
+pub legend-to-i64-spec : {M : Type 1} → statement M
+legend-to-i64-spec = tie.close (tie.spec to-i64-requires key-told-requires returns)

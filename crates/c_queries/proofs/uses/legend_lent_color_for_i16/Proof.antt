@@ -1,0 +1,43 @@
+-- `uses::legend_lent_color_for_i16` meets its contract. Assumes nothing.
+use Rattle.pixel_color.specs.Values.{colorForValue}
+use Rattle.c_answers.specs.Uses.{pixelUnless}
+use Rattle.c_types.proofs.Unless.{unless}
+use mathlib.Core.Path.{ap, _∙_}
+use mir.Syntax.{w16}
+use mir.Facts.{toZ-ofZ}
+use Rattle.cast.specs.Samples.{ofI16}
+use Rattle.cast.specs.Nodata.{nodataI16}
+use Rattle.c_types.specs.Samples.{nodataIfI16}
+use Rattle.legend_head.specs.Lent.{lentLegend}
+use borrow.Author.Needs.{needs}
+use Rattle.c_queries.proofs.uses.legend_lent_color_for_i16.Statement.{statement}
+use Rattle.c_queries.proofs.uses.legend_lent_color_for_i16.Tie as tie
+
+head-given-requires : tie.Need-head-given-requires
+head-given-requires c κs = search needs
+
+nodata-if-i16-requires : tie.Need-nodata-if-i16-requires
+nodata-if-i16-requires c κs = search needs
+
+color-for-value-i16-requires : tie.Need-color-for-value-i16-requires
+color-for-value-i16-requires c κs = search needs
+
+use-form-requires : tie.Need-use-form-requires
+use-form-requires c κs = search needs
+
+pixel-unless-requires : tie.Need-pixel-unless-requires
+pixel-unless-requires c κs = search needs
+
+returns : tie.Need-returns
+returns c = let a = c .before .before .before .before .before .args in let s = c .before .before .before .before .before in unless pixelUnless (c .pixel-unless .ensures) (c .before .use-form .ensures) (c .before .before .color-for-value-i16 .ensures ∙ (λ j. colorForValue (lentLegend (c .before .before .before .before .head-given .ensures j) (a .cmap .now) (a .keys .now) (a .colors .now) (a .lookup .now)) (nodataI16 ((c .before .before .before .nodata-if-i16 .ensures ∙ ap (nodataIfI16 (s .args .nodata-given)) (toZ-ofZ {w = w16} (s .fits .nodata))) j)) (ofI16 (toZ-ofZ {w = w16} (s .fits .value) j))))
+
+pub legend-lent-color-for-i16-spec : {M : Type 1} → statement M
+legend-lent-color-for-i16-spec =
+    tie.close
+    (tie.spec
+    head-given-requires
+    nodata-if-i16-requires
+    color-for-value-i16-requires
+    use-form-requires
+    pixel-unless-requires
+    returns)

@@ -1,0 +1,40 @@
+-- `uses::legend_lent_color_for_u8` meets its contract. Assumes nothing.
+use mathlib.Core.Path.{_∙_}
+use Rattle.cast.specs.Samples.{ofU8}
+use Rattle.pixel_color.specs.Values.{colorForValue}
+use Rattle.c_answers.specs.Uses.{pixelUnless}
+use Rattle.c_types.proofs.Unless.{unless}
+use Rattle.cast.specs.Nodata.{nodataU8}
+use Rattle.legend_head.specs.Lent.{lentLegend}
+use borrow.Author.Needs.{needs}
+use Rattle.c_queries.proofs.uses.legend_lent_color_for_u8.Statement.{statement}
+use Rattle.c_queries.proofs.uses.legend_lent_color_for_u8.Tie as tie
+
+head-given-requires : tie.Need-head-given-requires
+head-given-requires c κs = search needs
+
+nodata-if-u8-requires : tie.Need-nodata-if-u8-requires
+nodata-if-u8-requires c κs = search needs
+
+color-for-value-u8-requires : tie.Need-color-for-value-u8-requires
+color-for-value-u8-requires c κs = search needs
+
+use-form-requires : tie.Need-use-form-requires
+use-form-requires c κs = search needs
+
+pixel-unless-requires : tie.Need-pixel-unless-requires
+pixel-unless-requires c κs = search needs
+
+returns : tie.Need-returns
+returns c = let a = c .before .before .before .before .before .args in unless pixelUnless (c .pixel-unless .ensures) (c .before .use-form .ensures) (c .before .before .color-for-value-u8 .ensures ∙ (λ j. colorForValue (lentLegend (c .before .before .before .before .head-given .ensures j) (a .cmap .now) (a .keys .now) (a .colors .now) (a .lookup .now)) (nodataU8 (c .before .before .before .nodata-if-u8 .ensures j)) (ofU8 (c .before .before .before .before .before .args .value))))
+
+pub legend-lent-color-for-u8-spec : {M : Type 1} → statement M
+legend-lent-color-for-u8-spec =
+    tie.close
+    (tie.spec
+    head-given-requires
+    nodata-if-u8-requires
+    color-for-value-u8-requires
+    use-form-requires
+    pixel-unless-requires
+    returns)
