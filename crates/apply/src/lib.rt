@@ -1,4 +1,4 @@
-// Painting f32 rasters by a legend that is there by value (docs/RULES.md, "Painting"): its arrays are lent to the calls of `apply_lent`.
+// Painting f32 rasters by a legend that is there by value (docs/RULES.md, "Painting"): its arrays are lent to the calls of `apply_scalar` and `apply_kernel`.
 // The list of its colours.
 use band_lists::ValueRange;
 use cast::Nodata;
@@ -28,7 +28,7 @@ pub fn apply_to_data_scalar(legend: Legend, src: &[f32], nodata: Nodata, out: &m
     let colors = categoric.colors;
     let lookup = categoric.lookup;
     let head = legend_head::head_of(legend);
-    apply_lent::apply_to_data_scalar(head, &cmap, &keys, &colors, &lookup, src, nodata, out)
+    apply_scalar::apply_to_data_scalar(head, &cmap, &keys, &colors, &lookup, src, nodata, out)
 }
 
 pub fn apply_to_data_kernel(
@@ -48,7 +48,7 @@ pub fn apply_to_data_kernel(
     let colors = categoric.colors;
     let lookup = categoric.lookup;
     let head = legend_head::head_of(legend);
-    apply_lent::apply_to_data_kernel(
+    apply_kernel::apply_to_data_kernel(
         head,
         &cmap,
         &keys,

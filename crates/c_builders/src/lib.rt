@@ -16,7 +16,7 @@ ghost use Rattle.banded.specs.EqualBands.{withEqualBands};
 ghost use Rattle.banded.specs.ManualRanges.{withManualRanges};
 ghost use Rattle.banded.specs.Given.{withBandsGiven};
 ghost use Rattle.catgegoric.specs.Made.{forValues, forValuesFromRamp, forValueRange, forValueRangeFromRamp};
-ghost use Rattle.legend.specs.Building.{madeLinear, madeBanded, madeCategoric};
+ghost use Rattle.legend_builders.specs.Building.{madeLinear, madeBanded, madeCategoric};
 ghost use Rattle.c_types.specs.Settings.{settingsOf};
 ghost use Rattle.c_types.specs.Forms.{settingsForm};
 ghost use Rattle.c_records.specs.Records.{madeUnless};
@@ -31,7 +31,7 @@ pub extern "C" fn legend_create_linear(
     ensures { λ r. ⌜ r ≡ madeUnless (settingsForm settings) (madeLinear (linearOfList start end (now (colors .entry))) (settingsOf settings)) ⌝ }
 {
     let config = settings::settings_of(settings);
-    let made = legend::create_linear(colors, start, end, config);
+    let made = legend_builders::create_linear(colors, start, end, config);
     record::made_unless(forms::settings_form(settings), made)
 }
 
@@ -46,7 +46,7 @@ pub extern "C" fn legend_create_linear_from_ramp(
 {
     let map = ProcessedColorMap { cmap: *ramp };
     let config = settings::settings_of(settings);
-    let made = legend::create_linear_from_ramp(map, start, end, config);
+    let made = legend_builders::create_linear_from_ramp(map, start, end, config);
     record::made_unless(forms::settings_form(settings), made)
 }
 
@@ -61,7 +61,7 @@ pub extern "C" fn legend_create_banded(
     ensures { λ r. ⌜ r ≡ madeUnless (settingsForm settings) (madeBanded (withEqualBands count start end (now (colors .entry))) (settingsOf settings)) ⌝ }
 {
     let config = settings::settings_of(settings);
-    let made = legend::create_banded(count, colors, start, end, config);
+    let made = legend_builders::create_banded(count, colors, start, end, config);
     record::made_unless(forms::settings_form(settings), made)
 }
 
@@ -76,7 +76,7 @@ pub extern "C" fn legend_create_banded_from_ramp(
     ensures { λ r. ⌜ r ≡ madeUnless (settingsForm settings) (madeBanded (withEqualBands count start end (rampColors count (now (ramp .entry)))) (settingsOf settings)) ⌝ }
 {
     let config = settings::settings_of(settings);
-    let made = legend::create_banded_from_ramp(count, ramp, start, end, config);
+    let made = legend_builders::create_banded_from_ramp(count, ramp, start, end, config);
     record::made_unless(forms::settings_form(settings), made)
 }
 
@@ -89,7 +89,7 @@ pub extern "C" fn legend_create_banded_manual_ranges(
     ensures { λ r. ⌜ r ≡ madeUnless (settingsForm settings) (madeBanded (withManualRanges ranges (now (colors .entry))) (settingsOf settings)) ⌝ }
 {
     let config = settings::settings_of(settings);
-    let made = legend::create_banded_manual_ranges(colors, ranges, config);
+    let made = legend_builders::create_banded_manual_ranges(colors, ranges, config);
     record::made_unless(forms::settings_form(settings), made)
 }
 
@@ -102,7 +102,7 @@ pub extern "C" fn legend_create_banded_manual_ranges_from_ramp(
     ensures { λ r. ⌜ r ≡ madeUnless (settingsForm settings) (madeBanded (withManualRanges ranges (rampColors (ranges .count) (now (ramp .entry)))) (settingsOf settings)) ⌝ }
 {
     let config = settings::settings_of(settings);
-    let made = legend::create_banded_manual_ranges_from_ramp(ramp, ranges, config);
+    let made = legend_builders::create_banded_manual_ranges_from_ramp(ramp, ranges, config);
     record::made_unless(forms::settings_form(settings), made)
 }
 
@@ -121,7 +121,7 @@ fn bands_made(given: MadeBanded, settings: LegendSettings) -> LegendMade
     ensures { λ r. ⌜ r ≡ madeUnless (settingsForm settings) (madeBanded given (settingsOf settings)) ⌝ }
 {
     let config = settings::settings_of(settings);
-    let made = legend::made_banded(given, config);
+    let made = legend_builders::made_banded(given, config);
     record::made_unless(forms::settings_form(settings), made)
 }
 
@@ -134,7 +134,7 @@ pub extern "C" fn legend_create_categoric_for_value_list(
     ensures { λ r. ⌜ r ≡ madeUnless (settingsForm settings) (madeCategoric (forValues (now (values .entry)) (now (colors .entry))) (settingsOf settings)) ⌝ }
 {
     let config = settings::settings_of(settings);
-    let made = legend::create_categoric_for_value_list(colors, values, config);
+    let made = legend_builders::create_categoric_for_value_list(colors, values, config);
     record::made_unless(forms::settings_form(settings), made)
 }
 
@@ -147,7 +147,7 @@ pub extern "C" fn legend_create_categoric_for_value_list_from_ramp(
     ensures { λ r. ⌜ r ≡ madeUnless (settingsForm settings) (madeCategoric (forValuesFromRamp (now (values .entry)) (now (ramp .entry))) (settingsOf settings)) ⌝ }
 {
     let config = settings::settings_of(settings);
-    let made = legend::create_categoric_for_value_list_from_ramp(ramp, values, config);
+    let made = legend_builders::create_categoric_for_value_list_from_ramp(ramp, values, config);
     record::made_unless(forms::settings_form(settings), made)
 }
 
@@ -161,7 +161,7 @@ pub extern "C" fn legend_create_categoric_for_value_range(
     ensures { λ r. ⌜ r ≡ madeUnless (settingsForm settings) (madeCategoric (forValueRange start end (now (colors .entry))) (settingsOf settings)) ⌝ }
 {
     let config = settings::settings_of(settings);
-    let made = legend::create_categoric_for_value_range(colors, start, end, config);
+    let made = legend_builders::create_categoric_for_value_range(colors, start, end, config);
     record::made_unless(forms::settings_form(settings), made)
 }
 
@@ -175,6 +175,11 @@ pub extern "C" fn legend_create_categoric_for_value_range_from_ramp(
     ensures { λ r. ⌜ r ≡ madeUnless (settingsForm settings) (madeCategoric (forValueRangeFromRamp start end (now (ramp .entry))) (settingsOf settings)) ⌝ }
 {
     let config = settings::settings_of(settings);
-    let made = legend::create_categoric_for_value_range_from_ramp(ramp, start, end, config);
+    let made = legend_builders::create_categoric_for_value_range_from_ramp(
+        ramp,
+        start,
+        end,
+        config,
+    );
     record::made_unless(forms::settings_form(settings), made)
 }

@@ -37,7 +37,7 @@ pub extern "C" fn legend_lent_paint_f32(
 {
     match forms::use_form(head.settings, head.kind, nodata_given) {
         Form::Refused(number) => answer::placed(number, Index::Absent),
-        Form::Sound => answer::told(apply_lent::apply_to_data_scalar(
+        Form::Sound => answer::told(apply_scalar::apply_to_data_scalar(
             head::head_given(head, banded),
             cmap,
             keys,
@@ -67,7 +67,7 @@ pub extern "C" fn legend_lent_paint_u8(
 {
     match forms::use_form(head.settings, head.kind, nodata_given) {
         Form::Refused(number) => answer::placed(number, Index::Absent),
-        Form::Sound => answer::told(apply_lent::apply_to_data_scalar_u8(
+        Form::Sound => answer::told(apply_scalar::apply_to_data_scalar_u8(
             head::head_given(head, banded),
             cmap,
             keys,
@@ -97,7 +97,7 @@ pub extern "C" fn legend_lent_paint_i16(
 {
     match forms::use_form(head.settings, head.kind, nodata_given) {
         Form::Refused(number) => answer::placed(number, Index::Absent),
-        Form::Sound => answer::told(apply_lent::apply_to_data_scalar_i16(
+        Form::Sound => answer::told(apply_scalar::apply_to_data_scalar_i16(
             head::head_given(head, banded),
             cmap,
             keys,
@@ -131,7 +131,7 @@ pub extern "C" fn legend_lent_paint_lanes_f32(
 {
     match forms::use_form(head.settings, head.kind, nodata_given) {
         Form::Refused(number) => answer::placed(number, Index::Absent),
-        Form::Sound => answer::told(apply_lent::apply_to_data_kernel(
+        Form::Sound => answer::told(apply_kernel::apply_to_data_kernel(
             head::head_given(head, banded),
             cmap,
             keys,
@@ -165,7 +165,7 @@ pub extern "C" fn legend_lent_paint_lanes_u8(
 {
     match forms::use_form(head.settings, head.kind, nodata_given) {
         Form::Refused(number) => answer::placed(number, Index::Absent),
-        Form::Sound => answer::told(apply_lent::apply_to_data_kernel_u8(
+        Form::Sound => answer::told(apply_kernel::apply_to_data_kernel_u8(
             head::head_given(head, banded),
             cmap,
             keys,
@@ -199,7 +199,7 @@ pub extern "C" fn legend_lent_paint_lanes_i16(
 {
     match forms::use_form(head.settings, head.kind, nodata_given) {
         Form::Refused(number) => answer::placed(number, Index::Absent),
-        Form::Sound => answer::told(apply_lent::apply_to_data_kernel_i16(
+        Form::Sound => answer::told(apply_kernel::apply_to_data_kernel_i16(
             head::head_given(head, banded),
             cmap,
             keys,

@@ -6,7 +6,7 @@ use Rattle.refusal.specs.declared.Index.the-variants.{Absent}
 use Rattle.legend.specs.declared.LegendKind.{LegendKind}
 use Rattle.legend.specs.declared.LegendKind.the-variants.{Linear, Banded, CategoricNumeric}
 use Rattle.legend.specs.declared.Legend.{Legend}
-use Rattle.legend.specs.declared.MadeLegend.{MadeLegend}
+use Rattle.legend_builders.specs.declared.MadeLegend.{MadeLegend}
 use Rattle.legend.specs.Record.{emptyLegend}
 use Rattle.c_types.specs.declared.forms.Form.{Form}
 use Rattle.c_types.specs.declared.forms.Form.the-variants.{Sound, Refused}

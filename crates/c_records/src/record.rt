@@ -8,7 +8,7 @@ use c_types::settings::LegendSettings;
 use catgegoric::CategoricNumeric;
 use legend::Legend;
 use legend::LegendKind;
-use legend::MadeLegend;
+use legend_builders::MadeLegend;
 use linear::Linear;
 use refusal::Index;
 ghost use mathlib.Core.Path.{_≡_};

@@ -1,4 +1,3 @@
--- The laws that other crates cite, and what the proofs of this crate share.
+-- The laws that other crates cite.
 pub mod Stored
 pub mod AnyKind
-mod Making

@@ -10,7 +10,7 @@ use colormap::ProcessedColorMap;
 use colormapper::MappingConfig;
 use colormapper::OptionalColor;
 use legend::Legend;
-use legend::MadeLegend;
+use legend_builders::MadeLegend;
 use linear::Linear;
 use refusal::Answer;
 ghost use Prim.Native.Nat.{_<_};
@@ -58,11 +58,11 @@ fn linear(row: &[u32; 160], config: MappingConfig) -> MadeLegend {
     let start = row::float(row[place::NUMBERS]);
     let end = row::float(row[place::NUMBERS + 1]);
     if row[place::SOURCE] < place::FROM_LIST {
-        return legend::create_linear_from_ramp(palette_ramp(row), start, end, config);
+        return legend_builders::create_linear_from_ramp(palette_ramp(row), start, end, config);
     }
     let list = row::words_at(row, place::COLORS);
     let count = row::at_most_16(row[place::LIST_COUNT]);
-    legend::create_linear(&list[..count], start, end, config)
+    legend_builders::create_linear(&list[..count], start, end, config)
 }
 
 fn equal_bands(row: &[u32; 160], config: MappingConfig) -> MadeLegend {
@@ -70,7 +70,7 @@ fn equal_bands(row: &[u32; 160], config: MappingConfig) -> MadeLegend {
     let end = row::float(row[place::NUMBERS + 1]);
     if row[place::SOURCE] < place::FROM_LIST {
         let ramp = palette_ramp(row);
-        return legend::create_banded_from_ramp(
+        return legend_builders::create_banded_from_ramp(
             row::wide(row[place::COUNT]),
             &ramp.cmap,
             start,
@@ -80,7 +80,7 @@ fn equal_bands(row: &[u32; 160], config: MappingConfig) -> MadeLegend {
     }
     let list = row::words_at(row, place::COLORS);
     let count = row::at_most_16(row[place::LIST_COUNT]);
-    legend::create_banded(
+    legend_builders::create_banded(
         row::wide(row[place::COUNT]),
         &list[..count],
         start,
@@ -93,11 +93,11 @@ fn manual_ranges(row: &[u32; 160], config: MappingConfig) -> MadeLegend {
     let values = ranges(row);
     if row[place::SOURCE] < place::FROM_LIST {
         let ramp = palette_ramp(row);
-        return legend::create_banded_manual_ranges_from_ramp(&ramp.cmap, values, config);
+        return legend_builders::create_banded_manual_ranges_from_ramp(&ramp.cmap, values, config);
     }
     let list = row::words_at(row, place::COLORS);
     let count = row::at_most_16(row[place::LIST_COUNT]);
-    legend::create_banded_manual_ranges(&list[..count], values, config)
+    legend_builders::create_banded_manual_ranges(&list[..count], values, config)
 }
 
 fn range(row: &[u32; 160], i: usize) -> ValueRange
@@ -131,7 +131,7 @@ fn categories(row: &[u32; 160], config: MappingConfig) -> MadeLegend {
     let key_count = row::at_most_16(row[place::COUNT]);
     if row[place::SOURCE] < place::FROM_LIST {
         let ramp = palette_ramp(row);
-        return legend::create_categoric_for_value_list_from_ramp(
+        return legend_builders::create_categoric_for_value_list_from_ramp(
             &ramp.cmap,
             &keys[..key_count],
             config,
@@ -139,7 +139,7 @@ fn categories(row: &[u32; 160], config: MappingConfig) -> MadeLegend {
     }
     let list = row::words_at(row, place::COLORS);
     let count = row::at_most_16(row[place::LIST_COUNT]);
-    legend::create_categoric_for_value_list(&list[..count], &keys[..key_count], config)
+    legend_builders::create_categoric_for_value_list(&list[..count], &keys[..key_count], config)
 }
 
 fn category_range(row: &[u32; 160], config: MappingConfig) -> MadeLegend {
@@ -147,11 +147,16 @@ fn category_range(row: &[u32; 160], config: MappingConfig) -> MadeLegend {
     let end = row::key(row[place::NUMBERS + 1]);
     if row[place::SOURCE] < place::FROM_LIST {
         let ramp = palette_ramp(row);
-        return legend::create_categoric_for_value_range_from_ramp(&ramp.cmap, start, end, config);
+        return legend_builders::create_categoric_for_value_range_from_ramp(
+            &ramp.cmap,
+            start,
+            end,
+            config,
+        );
     }
     let list = row::words_at(row, place::COLORS);
     let count = row::at_most_16(row[place::LIST_COUNT]);
-    legend::create_categoric_for_value_range(&list[..count], start, end, config)
+    legend_builders::create_categoric_for_value_range(&list[..count], start, end, config)
 }
 
 // ---- records that no builder made

@@ -19,7 +19,7 @@ pub fn apply_to_data_scalar_u8(
     let colors = categoric.colors;
     let lookup = categoric.lookup;
     let head = legend_head::head_of(legend);
-    apply_lent::apply_to_data_scalar_u8(head, &cmap, &keys, &colors, &lookup, src, nodata, out)
+    apply_scalar::apply_to_data_scalar_u8(head, &cmap, &keys, &colors, &lookup, src, nodata, out)
 }
 
 pub fn apply_to_data_scalar_i16(
@@ -35,7 +35,7 @@ pub fn apply_to_data_scalar_i16(
     let colors = categoric.colors;
     let lookup = categoric.lookup;
     let head = legend_head::head_of(legend);
-    apply_lent::apply_to_data_scalar_i16(head, &cmap, &keys, &colors, &lookup, src, nodata, out)
+    apply_scalar::apply_to_data_scalar_i16(head, &cmap, &keys, &colors, &lookup, src, nodata, out)
 }
 
 pub fn apply_to_data_kernel_u8(
@@ -53,7 +53,7 @@ pub fn apply_to_data_kernel_u8(
     let colors = categoric.colors;
     let lookup = categoric.lookup;
     let head = legend_head::head_of(legend);
-    apply_lent::apply_to_data_kernel_u8(
+    apply_kernel::apply_to_data_kernel_u8(
         head,
         &cmap,
         &keys,
@@ -82,7 +82,7 @@ pub fn apply_to_data_kernel_i16(
     let colors = categoric.colors;
     let lookup = categoric.lookup;
     let head = legend_head::head_of(legend);
-    apply_lent::apply_to_data_kernel_i16(
+    apply_kernel::apply_to_data_kernel_i16(
         head,
         &cmap,
         &keys,

@@ -7,7 +7,7 @@ use color::Color;
 use colormap::ProcessedColorMap;
 use colormapper::MappingConfig;
 use colormapper::OptionalColor;
-use legend::MadeLegend;
+use legend_builders::MadeLegend;
 use refusal::Answer;
 
 // Colours that stand for themselves: those of A and B, and of the settings.
@@ -49,7 +49,7 @@ fn gray_word(level: u8) -> u32 {
 
 pub fn gray_legend(start: f32, end: f32, zero_is_nodata: bool) -> MadeLegend {
     let cmap = gray();
-    legend::create_linear_from_ramp(
+    legend_builders::create_linear_from_ramp(
         ProcessedColorMap { cmap },
         start,
         end,
@@ -65,18 +65,18 @@ pub fn two_bands(start: f32, end: f32, next_start: f32, next_end: f32) -> MadeLe
         end: next_end,
     };
     let values = ValueRanges { ranges, count: 2 };
-    legend::create_banded_manual_ranges(&[A, B], values, settings(false))
+    legend_builders::create_banded_manual_ranges(&[A, B], values, settings(false))
 }
 
 // Eleven equal bands from 0 to 1 with colours of G.
 pub fn eleven_bands() -> MadeLegend {
     let ramp = gray();
-    legend::create_banded_from_ramp(11, &ramp, 0.0, 1.0, settings(false))
+    legend_builders::create_banded_from_ramp(11, &ramp, 0.0, 1.0, settings(false))
 }
 
 // Two keys with the colours A and B.
 pub fn two_keys(first: i64, second: i64) -> MadeLegend {
-    legend::create_categoric_for_value_list(&[A, B], &[first, second], settings(false))
+    legend_builders::create_categoric_for_value_list(&[A, B], &[first, second], settings(false))
 }
 
 // ---- painting

@@ -1,7 +1,7 @@
 // The legends of the maps.
 use colormapper::MappingConfig;
 use colormapper::OptionalColor;
-use legend::MadeLegend;
+use legend_builders::MadeLegend;
 
 // Light grey.
 const NODATA: u32 = 0xFFC8_C8C8;
@@ -34,7 +34,7 @@ fn cold_to_warm() -> [u32; 11] {
 
 pub fn temperature_linear() -> MadeLegend {
     let colors = cold_to_warm();
-    legend::create_linear(&colors, -10.0, 35.0, settings(false))
+    legend_builders::create_linear(&colors, -10.0, 35.0, settings(false))
 }
 
 // Nine bands of five degrees.
@@ -42,12 +42,12 @@ pub fn temperature_banded() -> MadeLegend {
     let colors = cold_to_warm();
     let made = colormap::create(&colors);
     let ramp = made.ramp;
-    legend::create_banded_from_ramp(9, &ramp.cmap, -10.0, 35.0, settings(false))
+    legend_builders::create_banded_from_ramp(9, &ramp.cmap, -10.0, 35.0, settings(false))
 }
 
 // A key for each whole millimetre.
 pub fn rain_categoric() -> MadeLegend {
     let made = colormap::create_for_preset(YL_GN_BU);
     let ramp = made.ramp;
-    legend::create_categoric_for_value_range_from_ramp(&ramp.cmap, 0, 40, settings(true))
+    legend_builders::create_categoric_for_value_range_from_ramp(&ramp.cmap, 0, 40, settings(true))
 }

@@ -7,7 +7,7 @@ mod png;
 mod say;
 
 use field::Field;
-use legend::MadeLegend;
+use legend_builders::MadeLegend;
 use refusal::Answer;
 
 // One map: painted, compared, written and told of.

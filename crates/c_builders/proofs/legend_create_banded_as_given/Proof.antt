@@ -35,7 +35,7 @@ use Rattle.bands.specs.declared.LegendBand.{LegendBand}
 use Rattle.banded.specs.Given.{withBandsGiven}
 use Rattle.banded.proofs.Rows.{Band}
 use Rattle.banded.proofs.Calls.{calls-fact}
-use Rattle.legend.specs.Building.{madeBanded}
+use Rattle.legend_builders.specs.Building.{madeBanded}
 use Rattle.c_types.specs.declared.settings.LegendSettings.{LegendSettings}
 use Rattle.c_records.specs.declared.record.LegendMade.{LegendMade}
 use Rattle.c_types.specs.Settings.{settingsOf}

@@ -1,6 +1,6 @@
 -- `legend_create_categoric_for_value_range` meets its contract. Assumes nothing.
 use mathlib.Core.Path.{_∙_}
-use Rattle.legend.specs.Building.{madeCategoric}
+use Rattle.legend_builders.specs.Building.{madeCategoric}
 use Rattle.c_records.specs.Records.{madeUnless}
 use Rattle.c_types.proofs.Unless.{unless}
 use Rattle.catgegoric.specs.Made.{forValueRange}

@@ -1,6 +1,6 @@
 -- `legend_create_linear_from_ramp` meets its contract. Assumes nothing.
 use mathlib.Core.Path.{ap, _∙_}
-use Rattle.legend.specs.Building.{madeLinear}
+use Rattle.legend_builders.specs.Building.{madeLinear}
 use Rattle.c_records.specs.Records.{madeUnless}
 use Rattle.c_types.proofs.Unless.{unless}
 use borrow.Author.Needs.{needs}

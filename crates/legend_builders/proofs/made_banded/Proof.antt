@@ -1,0 +1,32 @@
+-- `made_banded` meets its contract. Assumes nothing.
+use Rattle.legend.specs.Record.{bandedLegend}
+use Rattle.legend_builders.proofs.Making.{none, one}
+use Rattle.legend_builders.specs.Building.{madeBanded}
+use borrow.Author.Needs.{needs}
+use Rattle.legend_builders.proofs.made_banded.Statement.{statement}
+use Rattle.legend_builders.proofs.made_banded.Tie as tie
+
+enum-told : tie.Need-enum-told
+enum-told c = search needs
+
+default-requires : tie.Need-default-requires
+default-requires c κs = search needs
+
+returns : tie.Need-returns
+unfolding madeBanded
+returns c = let a = c .before .before .before .args in none (bandedLegend (a .made .banded) (a .config)) (c .default .ensures) (c .before .enum-told .given .1)
+
+enum-told-2 : tie.Need-enum-told-2
+enum-told-2 c = search needs
+
+with-banded-requires : tie.Need-with-banded-requires
+with-banded-requires c κs = search needs
+
+returns-2 : tie.Need-returns-2
+unfolding madeBanded
+returns-2 c = let a = c .before .before .before .before .args in one (bandedLegend (a .made .banded) (a .config)) (c .with-banded .ensures) (c .before .before .enum-told2 .given .1)
+
+pub made-banded-spec : {M : Type 1} → statement M
+made-banded-spec =
+    tie.close
+    (tie.spec enum-told default-requires returns enum-told-2 with-banded-requires returns-2)

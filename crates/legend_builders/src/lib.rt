@@ -1,0 +1,188 @@
+// The builders of legends: a kind's builder and the settings (docs/RULES.md).
+use band_lists::ValueRanges;
+use banded::Banded;
+use banded::MadeBanded;
+use catgegoric::MadeCategoric;
+use colormap::ProcessedColorMap;
+use colormapper::MappingConfig;
+use legend::Legend;
+use linear::Linear;
+use linear::MadeLinear;
+use refusal::Answer;
+ghost use mathlib.Core.Path.{_≡_};
+ghost use Rattle.colormap.specs.Positions.{rampColors};
+ghost use Rattle.linear.specs.Made.{linearOfRamp, linearOfList};
+ghost use Rattle.banded.specs.EqualBands.{withEqualBands};
+ghost use Rattle.banded.specs.ManualRanges.{withManualRanges};
+ghost use Rattle.catgegoric.specs.Made.{forValues, forValuesFromRamp, forValueRange, forValueRangeFromRamp};
+ghost use Rattle.legend_builders.specs.Building.{madeLinear, madeBanded, madeCategoric};
+
+// A legend that was asked for: the empty one beside a refusal.
+pub struct MadeLegend {
+    pub answer: Answer,
+    pub legend: Legend,
+}
+
+// ---- from what a kind's builder made
+
+fn made_linear(made: MadeLinear, config: MappingConfig) -> MadeLegend
+    ensures { λ r. ⌜ r ≡ madeLinear made config ⌝ }
+{
+    let answer = made.answer;
+    if let Answer::Refused(_) = answer {
+        return MadeLegend {
+            answer,
+            legend: Legend::default(),
+        };
+    }
+    let linear = made.linear;
+    MadeLegend {
+        answer,
+        legend: Legend::with_linear(linear, config),
+    }
+}
+
+pub fn made_banded(made: MadeBanded, config: MappingConfig) -> MadeLegend
+    ensures { λ r. ⌜ r ≡ madeBanded made config ⌝ }
+{
+    let answer = made.answer;
+    if let Answer::Refused(_) = answer {
+        return MadeLegend {
+            answer,
+            legend: Legend::default(),
+        };
+    }
+    let banded = made.banded;
+    MadeLegend {
+        answer,
+        legend: Legend::with_banded(banded, config),
+    }
+}
+
+fn made_categoric(made: MadeCategoric, config: MappingConfig) -> MadeLegend
+    ensures { λ r. ⌜ r ≡ madeCategoric made config ⌝ }
+{
+    let answer = made.answer;
+    if let Answer::Refused(_) = answer {
+        return MadeLegend {
+            answer,
+            legend: Legend::default(),
+        };
+    }
+    let categoric = made.categoric;
+    MadeLegend {
+        answer,
+        legend: Legend::with_categoric(categoric, config),
+    }
+}
+
+// ---- the builders. Colours come as a list or, by the names that say so, as a ramp.
+
+pub fn create_linear(colors: &[u32], start: f32, end: f32, config: MappingConfig) -> MadeLegend
+    ensures { λ r. ⌜ r ≡ madeLinear (linearOfList start end (now (colors .entry))) config ⌝ }
+{
+    made_linear(Linear::with_color_list(start, end, colors), config)
+}
+
+pub fn create_linear_from_ramp(
+    ramp: ProcessedColorMap,
+    start: f32,
+    end: f32,
+    config: MappingConfig,
+) -> MadeLegend
+    ensures { λ r. ⌜ r ≡ madeLinear (linearOfRamp start end (ramp .cmap)) config ⌝ }
+{
+    made_linear(Linear::new(start, end, ramp), config)
+}
+
+pub fn create_banded(
+    count: usize,
+    colors: &[u32],
+    start: f32,
+    end: f32,
+    config: MappingConfig,
+) -> MadeLegend
+    ensures { λ r. ⌜ r ≡ madeBanded (withEqualBands count start end (now (colors .entry))) config ⌝ }
+{
+    made_banded(Banded::with_equal_bands(count, start, end, colors), config)
+}
+
+pub fn create_banded_from_ramp(
+    count: usize,
+    cmap: &[u32; 256],
+    start: f32,
+    end: f32,
+    config: MappingConfig,
+) -> MadeLegend
+    ensures { λ r. ⌜ r ≡ madeBanded (withEqualBands count start end (rampColors count (now (cmap .entry)))) config ⌝ }
+{
+    made_banded(
+        Banded::with_equal_bands_from_ramp(count, start, end, cmap),
+        config,
+    )
+}
+
+pub fn create_banded_manual_ranges(
+    colors: &[u32],
+    values: ValueRanges,
+    config: MappingConfig,
+) -> MadeLegend
+    ensures { λ r. ⌜ r ≡ madeBanded (withManualRanges values (now (colors .entry))) config ⌝ }
+{
+    made_banded(Banded::with_manual_ranges(values, colors), config)
+}
+
+pub fn create_banded_manual_ranges_from_ramp(
+    cmap: &[u32; 256],
+    values: ValueRanges,
+    config: MappingConfig,
+) -> MadeLegend
+    ensures { λ r. ⌜ r ≡ madeBanded (withManualRanges values (rampColors (values .count) (now (cmap .entry)))) config ⌝ }
+{
+    made_banded(Banded::with_manual_ranges_from_ramp(values, cmap), config)
+}
+
+pub fn create_categoric_for_value_list(
+    colors: &[u32],
+    values: &[i64],
+    config: MappingConfig,
+) -> MadeLegend
+    ensures { λ r. ⌜ r ≡ madeCategoric (forValues (now (values .entry)) (now (colors .entry))) config ⌝ }
+{
+    made_categoric(catgegoric::for_values(values, colors), config)
+}
+
+pub fn create_categoric_for_value_list_from_ramp(
+    cmap: &[u32; 256],
+    values: &[i64],
+    config: MappingConfig,
+) -> MadeLegend
+    ensures { λ r. ⌜ r ≡ madeCategoric (forValuesFromRamp (now (values .entry)) (now (cmap .entry))) config ⌝ }
+{
+    made_categoric(catgegoric::for_values_from_ramp(values, cmap), config)
+}
+
+pub fn create_categoric_for_value_range(
+    colors: &[u32],
+    start: i64,
+    end: i64,
+    config: MappingConfig,
+) -> MadeLegend
+    ensures { λ r. ⌜ r ≡ madeCategoric (forValueRange start end (now (colors .entry))) config ⌝ }
+{
+    made_categoric(catgegoric::for_value_range(start, end, colors), config)
+}
+
+pub fn create_categoric_for_value_range_from_ramp(
+    cmap: &[u32; 256],
+    start: i64,
+    end: i64,
+    config: MappingConfig,
+) -> MadeLegend
+    ensures { λ r. ⌜ r ≡ madeCategoric (forValueRangeFromRamp start end (now (cmap .entry))) config ⌝ }
+{
+    made_categoric(
+        catgegoric::for_value_range_from_ramp(start, end, cmap),
+        config,
+    )
+}
