@@ -9,8 +9,8 @@ use Rattle.pixel_color.specs.declared.PixelColor.{PixelColor}
 use Rattle.pixel_color.specs.declared.PixelColor.the-variants as pixel
 use Rattle.apply.specs.declared.ColorList.{ColorList}
 use Rattle.c_answers.specs.declared.colors.LegendColor.{LegendColor}
-use Rattle.c_types.specs.declared.forms.Form.{Form}
-use Rattle.c_types.specs.declared.forms.Form.the-variants.{Sound, Refused}
+use Rattle.c_settings.specs.declared.forms.Form.{Form}
+use Rattle.c_settings.specs.declared.forms.Form.the-variants.{Sound, Refused}
 use Rattle.c_answers.specs.declared.uses.LegendValueRange.{LegendValueRange}
 use Rattle.c_answers.specs.declared.uses.LegendColorList.{LegendColorList}
 use Rattle.c_types.specs.Answers.{place, answerOf}

@@ -3,7 +3,7 @@ use crate::colors::LegendColor;
 use apply::ColorList;
 use c_types::answer;
 use c_types::answer::LegendAnswer;
-use c_types::forms::Form;
+use c_settings::forms::Form;
 use pixel_color::PixelColor;
 use refusal::Answer;
 use refusal::Index;

@@ -5,9 +5,9 @@ use banded::MadeBanded;
 use bands::LegendBand;
 use c_records::record;
 use c_records::record::LegendMade;
-use c_types::forms;
-use c_types::settings;
-use c_types::settings::LegendSettings;
+use c_settings::forms;
+use c_settings::settings;
+use c_settings::settings::LegendSettings;
 use colormap::ProcessedColorMap;
 ghost use mathlib.Core.Path.{_≡_};
 ghost use Rattle.colormap.specs.Positions.{rampColors};
@@ -17,8 +17,8 @@ ghost use Rattle.banded.specs.ManualRanges.{withManualRanges};
 ghost use Rattle.banded.specs.Given.{withBandsGiven};
 ghost use Rattle.catgegoric.specs.Made.{forValues, forValuesFromRamp, forValueRange, forValueRangeFromRamp};
 ghost use Rattle.legend_builders.specs.Building.{madeLinear, madeBanded, madeCategoric};
-ghost use Rattle.c_types.specs.Settings.{settingsOf};
-ghost use Rattle.c_types.specs.Forms.{settingsForm};
+ghost use Rattle.c_settings.specs.Settings.{settingsOf};
+ghost use Rattle.c_settings.specs.Forms.{settingsForm};
 ghost use Rattle.c_records.specs.Records.{madeUnless};
 
 #[no_mangle]

@@ -10,8 +10,8 @@ use Rattle.painting.specs.Contracts.{Painter, PlainPainting, LanePainting}
 use Rattle.legend.specs.declared.Legend.{Legend}
 use Rattle.legend.specs.Painters.{painter}
 use Rattle.c_types.specs.declared.answer.LegendAnswer.{LegendAnswer}
-use Rattle.c_types.specs.declared.forms.Form.{Form}
-use Rattle.c_types.specs.declared.forms.Form.the-variants.{Sound, Refused}
+use Rattle.c_settings.specs.declared.forms.Form.{Form}
+use Rattle.c_settings.specs.declared.forms.Form.the-variants.{Sound, Refused}
 use Rattle.c_types.specs.Answers.{place, answerOf}
 use Rattle.c_painters.specs.Painting as call
 use Rattle.c_painters.specs.Painting.{PlainCall, LaneCall}

@@ -7,8 +7,8 @@ use Rattle.refusal.specs.declared.Answer.{Answer}
 use Rattle.refusal.specs.declared.Index.the-variants.{Absent}
 use Rattle.painting.specs.Contracts.{Painter, PlainPainting, LanePainting}
 use Rattle.c_types.specs.declared.answer.LegendAnswer.{LegendAnswer}
-use Rattle.c_types.specs.declared.forms.Form.{Form}
-use Rattle.c_types.specs.declared.forms.Form.the-variants.{Sound, Refused}
+use Rattle.c_settings.specs.declared.forms.Form.{Form}
+use Rattle.c_settings.specs.declared.forms.Form.the-variants.{Sound, Refused}
 use Rattle.c_types.specs.Answers.{place, answerOf}
 
 pub data PlainCall (form : Form) (p : Painter) (xs : List Float) (out : List ℕ) (result : LegendAnswer) (out' : List ℕ) : Type 0 where

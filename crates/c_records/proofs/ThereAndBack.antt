@@ -9,10 +9,10 @@ use Rattle.colormapper.specs.Settings.{orElse}
 use Rattle.legend.specs.declared.LegendKind.{LegendKind}
 use Rattle.legend.specs.declared.LegendKind.the-variants.{Linear, Banded, CategoricNumeric}
 use Rattle.legend.specs.declared.Legend.{Legend}
-use Rattle.c_types.specs.declared.forms.Form.the-variants.{Sound}
-use Rattle.c_types.specs.Settings.{colorIf, flagOf, givenFlag, settingsOf, flatSettings}
+use Rattle.c_settings.specs.declared.forms.Form.the-variants.{Sound}
+use Rattle.c_settings.specs.Settings.{colorIf, flagOf, givenFlag, settingsOf, flatSettings}
 use Rattle.c_records.specs.Records.{kindOf, kindNumber, legendOf, flat}
-use Rattle.c_types.specs.Forms.{settingsForm, legendForm}
+use Rattle.c_settings.specs.Forms.{settingsForm, legendForm}
 
 color-back : (o : OptionalColor) → colorIf (givenFlag o) (orElse o 0) ≡ o
 color-back (Given c) = refl

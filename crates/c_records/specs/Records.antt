@@ -8,12 +8,12 @@ use Rattle.legend.specs.declared.LegendKind.the-variants.{Linear, Banded, Categ
 use Rattle.legend.specs.declared.Legend.{Legend}
 use Rattle.legend_builders.specs.declared.MadeLegend.{MadeLegend}
 use Rattle.legend.specs.Record.{emptyLegend}
-use Rattle.c_types.specs.declared.forms.Form.{Form}
-use Rattle.c_types.specs.declared.forms.Form.the-variants.{Sound, Refused}
+use Rattle.c_settings.specs.declared.forms.Form.{Form}
+use Rattle.c_settings.specs.declared.forms.Form.the-variants.{Sound, Refused}
 use Rattle.c_records.specs.declared.record.LegendRecord.{LegendRecord}
 use Rattle.c_records.specs.declared.record.LegendMade.{LegendMade}
 use Rattle.c_types.specs.Answers.{place, answerOf}
-use Rattle.c_types.specs.Settings.{settingsOf, flatSettings}
+use Rattle.c_settings.specs.Settings.{settingsOf, flatSettings}
 
 -- 0 linear, 1 banded, 2 categoric; the numbers from 3 on are refused before
 abbrev pub kindOf : ℕ → LegendKind

@@ -1,8 +1,8 @@
 // A legend as C lends it: its arrays beside the rest of it.
 use crate::record;
 use banded::Banded;
-use c_types::settings;
-use c_types::settings::LegendSettings;
+use c_settings::settings;
+use c_settings::settings::LegendSettings;
 use legend_head::Head;
 ghost use mathlib.Core.Path.{_≡_};
 ghost use Rattle.c_records.specs.Heads.{headGiven};

@@ -2,9 +2,9 @@
 use banded::Banded;
 use c_types::answer;
 use c_types::answer::LegendAnswer;
-use c_types::forms::Form;
-use c_types::settings;
-use c_types::settings::LegendSettings;
+use c_settings::forms::Form;
+use c_settings::settings;
+use c_settings::settings::LegendSettings;
 use catgegoric::CategoricNumeric;
 use legend::Legend;
 use legend::LegendKind;

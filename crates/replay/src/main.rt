@@ -1,13 +1,11 @@
 // Replays the stored answers of the Rust: every row of answers.bin is worked out anew and compared (README.md).
 // Prints a line for each kind of row, and the totals.
-mod build;
 mod by_value;
-mod leaves;
 mod paint;
-mod place;
-mod row;
 mod tell;
 
+use answer_legends::leaves;
+use answer_rows::row;
 ghost use Prim.Native.Nat.{_<_};
 
 // The kind of a row, and 12 for one that is malformed.

@@ -1,8 +1,8 @@
 // Rows of legends: the builder's answer, the range of values, the list of colours, and every painting of the samples.
-use crate::build;
+use answer_legends::build;
 use crate::by_value;
-use crate::place;
-use crate::row;
+use answer_rows::place;
+use answer_rows::row;
 use cast::Nodata;
 use cast::NodataI16;
 use cast::NodataU8;

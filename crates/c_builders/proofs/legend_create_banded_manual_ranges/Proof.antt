@@ -2,7 +2,7 @@
 use mathlib.Core.Path.{ap, _∙_}
 use Rattle.legend_builders.specs.Building.{madeBanded}
 use Rattle.c_records.specs.Records.{madeUnless}
-use Rattle.c_types.proofs.Unless.{unless}
+use Rattle.c_settings.proofs.Unless.{unless}
 use borrow.Author.Needs.{needs}
 use Rattle.c_builders.proofs.legend_create_banded_manual_ranges.Statement.{
   statement,

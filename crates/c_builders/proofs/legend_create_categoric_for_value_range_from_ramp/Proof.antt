@@ -2,7 +2,7 @@
 use mathlib.Core.Path.{_∙_}
 use Rattle.legend_builders.specs.Building.{madeCategoric}
 use Rattle.c_records.specs.Records.{madeUnless}
-use Rattle.c_types.proofs.Unless.{unless}
+use Rattle.c_settings.proofs.Unless.{unless}
 use Rattle.catgegoric.specs.Made.{forValueRangeFromRamp}
 use Rattle.key_lists.proofs.Numbers.{back₂}
 use borrow.Author.Needs.{needs}

@@ -2,7 +2,7 @@
 use mathlib.Core.Path.{ap, _∙_}
 use Rattle.apply.specs.ColorLists.{colorList}
 use Rattle.c_answers.specs.Uses.{listUnless}
-use Rattle.c_types.proofs.Unless.{unless}
+use Rattle.c_settings.proofs.Unless.{unless}
 use borrow.Author.Needs.{needs}
 use Rattle.c_queries.proofs.uses.legend_color_list.Statement.{statement}
 use Rattle.c_queries.proofs.uses.legend_color_list.Tie as tie

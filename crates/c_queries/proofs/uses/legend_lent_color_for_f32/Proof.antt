@@ -2,7 +2,7 @@
 use mathlib.Core.Path.{_∙_}
 use Rattle.pixel_color.specs.Values.{colorForValue}
 use Rattle.c_answers.specs.Uses.{pixelUnless}
-use Rattle.c_types.proofs.Unless.{unless}
+use Rattle.c_settings.proofs.Unless.{unless}
 use Rattle.legend_head.specs.Lent.{lentLegend}
 use borrow.Author.Needs.{needs}
 use Rattle.c_queries.proofs.uses.legend_lent_color_for_f32.Statement.{statement}

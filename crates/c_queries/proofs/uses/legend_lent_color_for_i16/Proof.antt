@@ -1,7 +1,7 @@
 -- `uses::legend_lent_color_for_i16` meets its contract. Assumes nothing.
 use Rattle.pixel_color.specs.Values.{colorForValue}
 use Rattle.c_answers.specs.Uses.{pixelUnless}
-use Rattle.c_types.proofs.Unless.{unless}
+use Rattle.c_settings.proofs.Unless.{unless}
 use mathlib.Core.Path.{ap, _∙_}
 use mir.Syntax.{w16}
 use mir.Facts.{toZ-ofZ}

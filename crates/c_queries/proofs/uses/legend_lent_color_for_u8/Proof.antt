@@ -3,7 +3,7 @@ use mathlib.Core.Path.{_∙_}
 use Rattle.cast.specs.Samples.{ofU8}
 use Rattle.pixel_color.specs.Values.{colorForValue}
 use Rattle.c_answers.specs.Uses.{pixelUnless}
-use Rattle.c_types.proofs.Unless.{unless}
+use Rattle.c_settings.proofs.Unless.{unless}
 use Rattle.cast.specs.Nodata.{nodataU8}
 use Rattle.legend_head.specs.Lent.{lentLegend}
 use borrow.Author.Needs.{needs}

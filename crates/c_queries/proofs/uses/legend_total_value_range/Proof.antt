@@ -2,7 +2,7 @@
 use mathlib.Core.Path.{ap, _∙_}
 use Rattle.value_range.specs.ValueRanges.{totalValueRange}
 use Rattle.c_answers.specs.Uses.{rangeUnless}
-use Rattle.c_types.proofs.Unless.{unless}
+use Rattle.c_settings.proofs.Unless.{unless}
 use borrow.Author.Needs.{needs}
 use Rattle.c_queries.proofs.uses.legend_total_value_range.Statement.{statement}
 use Rattle.c_queries.proofs.uses.legend_total_value_range.Tie as tie

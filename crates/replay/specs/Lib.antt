@@ -1,2 +1,0 @@
--- What the contracts of `replay` cite. Definitions only.
-pub mod Rows
