@@ -29,7 +29,8 @@ use Rattle.catgegoric.specs.declared.CategoricNumeric.{CategoricNumeric}
 use Rattle.paint_linear.specs.Rules as linearly
 use Rattle.paint_banded.specs.declared.BandedPaint.{BandedPaint}
 use Rattle.paint_banded.specs.Rules as bandedly
-use Rattle.paint_categoric.specs.Rules.{tableSample, tableChunk, keySample}
+use Rattle.paint_by_table.specs.Rules.{tableSample, tableChunk}
+use Rattle.paint_categoric.specs.Rules.{keySample}
 use Rattle.legend.specs.Painters.{linearPainter, bandsPainter, bandedPainter, categoricPainter}
 use Rattle.paint_legend.specs.Paints.{linearPaint, bandedPaint, categoricPaint}
 

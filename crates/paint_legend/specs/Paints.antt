@@ -9,7 +9,7 @@ use Rattle.banded.specs.Record.{counted}
 use Rattle.banded.specs.Unmappable.{bandedUnmappable}
 use Rattle.paint_linear.specs.declared.LinearPaint.{LinearPaint}
 use Rattle.paint_banded.specs.declared.BandedPaint.{BandedPaint}
-use Rattle.paint_categoric.specs.declared.CategoricPaint.{CategoricPaint}
+use Rattle.paint_by_table.specs.declared.CategoricPaint.{CategoricPaint}
 
 abbrev pub linearPaint : Linear → MappingConfig → Nodata → LinearPaint
 linearPaint l config nodata = record { start = l .start; end = l .end; colors = linearColors (l .cmap) config; exclusions = exclusionsOf nodata (config .«zero_is_nodata») }

@@ -6,7 +6,7 @@ use colormapper::MappingConfig;
 use legend::LegendKind;
 use legend_head::Head;
 use paint_banded::BandedPaint;
-use paint_categoric::CategoricPaint;
+use paint_by_table::CategoricPaint;
 use paint_linear::LinearPaint;
 ghost use mathlib.Core.Path.{_≡_};
 ghost use mathlib.Core.Bool.{true};
@@ -127,10 +127,10 @@ fn paint_categoric(
         return;
     }
     if lanes == 0 {
-        paint_categoric::paint_by_table(lookup, size, p, src, out);
+        paint_by_table::paint_by_table(lookup, size, p, src, out);
         return;
     }
-    paint_categoric::paint_by_table_simd(lookup, size, p, lanes, src, out);
+    paint_by_table::paint_by_table_simd(lookup, size, p, lanes, src, out);
 }
 
 // ---- a legend of any kind

@@ -1,7 +1,8 @@
 -- `paint_categoric` meets its contract. Assumes nothing.
 use mathlib.Core.Path.{ap, _∙_}
 use native.Mathlib.Omega.{arith}
-use Rattle.paint_categoric.specs.Rules.{tableSample, tableChunk, keySample}
+use Rattle.paint_by_table.specs.Rules.{tableSample, tableChunk}
+use Rattle.paint_categoric.specs.Rules.{keySample}
 use Rattle.painting.specs.Painted.{plainPainted}
 use Rattle.legend.specs.Painters.{categoricPainter}
 use Rattle.legend_head.specs.Lent.{lentCategoric}

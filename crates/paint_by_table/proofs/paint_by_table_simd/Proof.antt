@@ -7,9 +7,9 @@ use lib.ListN.{length, length-map}
 use Rattle.painting.proofs.Refusals.{lane-sizes}
 use Rattle.painting.proofs.Steps.{InChunks, chunks-start, chunk-turn, chunks-end}
 use Rattle.painting.proofs.Masking.{length-masked}
-use Rattle.paint_categoric.specs.Rules.{tableSample, tableChunk}
-use Rattle.paint_categoric.proofs.paint_by_table_simd.Statement.{statement}
-use Rattle.paint_categoric.proofs.paint_by_table_simd.Tie as tie
+use Rattle.paint_by_table.specs.Rules.{tableSample, tableChunk}
+use Rattle.paint_by_table.proofs.paint_by_table_simd.Statement.{statement}
+use Rattle.paint_by_table.proofs.paint_by_table_simd.Tie as tie
 
 abbrev Inv-loop : tie.InvT-loop
 Inv-loop lookup size p l src out₀ n base₀ out base = (n ≡ length src) × InChunks l (tableChunk lookup size p) (tableSample lookup size p) src base out

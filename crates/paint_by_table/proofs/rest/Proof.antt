@@ -5,9 +5,9 @@ use mathlib.Core.Path.{_∙_}
 use lib.ListN.{take}
 use Rattle.painting.proofs.Masking.{masked-map}
 use Rattle.painting.proofs.Whole.{rest-is, rest-none}
-use Rattle.paint_categoric.specs.Rules.{tableChunk}
-use Rattle.paint_categoric.proofs.rest.Statement.{statement}
-use Rattle.paint_categoric.proofs.rest.Tie as tie
+use Rattle.paint_by_table.specs.Rules.{tableChunk}
+use Rattle.paint_by_table.proofs.rest.Statement.{statement}
+use Rattle.paint_by_table.proofs.rest.Tie as tie
 
 sub-m : tie.Need-sub-m
 sub-m c = search needs

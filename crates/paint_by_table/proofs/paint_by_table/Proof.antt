@@ -7,9 +7,9 @@ use lib.ListN.{length, length-map}
 use Rattle.painting.proofs.Steps.{InChunks, chunks-start, chunk-turn, chunks-end}
 use Rattle.painting.proofs.Splitting.{plain-in-blocks}
 use mathlib.Core.List.{map}
-use Rattle.paint_categoric.specs.Rules.{tableSample}
-use Rattle.paint_categoric.proofs.paint_by_table.Statement.{statement}
-use Rattle.paint_categoric.proofs.paint_by_table.Tie as tie
+use Rattle.paint_by_table.specs.Rules.{tableSample}
+use Rattle.paint_by_table.proofs.paint_by_table.Statement.{statement}
+use Rattle.paint_by_table.proofs.paint_by_table.Tie as tie
 
 abbrev Inv-loop : tie.InvT-loop
 Inv-loop lookup size p src out₀ n base₀ out base = (n ≡ length src) × InChunks 16 (map (tableSample lookup size p)) (tableSample lookup size p) src base out

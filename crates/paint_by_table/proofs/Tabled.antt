@@ -14,8 +14,8 @@ use Rattle.painting.proofs.Masking.{masked-map}
 use Rattle.categories.specs.Rule.{tableColor}
 use Rattle.categories.specs.InTable.{kept, shown}
 use Rattle.categories.proofs.Phases.{in-two-phases}
-use Rattle.paint_categoric.specs.declared.CategoricPaint.{CategoricPaint}
-use Rattle.paint_categoric.specs.Rules.{tableChunk}
+use Rattle.paint_by_table.specs.declared.CategoricPaint.{CategoricPaint}
+use Rattle.paint_by_table.specs.Rules.{tableChunk}
 
 pub tabled : (l : ℕ) (lookup : List ℕ) (size : ℕ) (p : CategoricPaint) (v : List Float) (words d : List ℕ) → size ≤ 513 → l ≤ length v → l ≤ length d
     → Lanes 0 l words (λ k. getD lookup (floorOf (kept size (getD v k nan))) 0)

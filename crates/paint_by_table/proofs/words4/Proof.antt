@@ -1,8 +1,8 @@
 -- `words4` meets its contract. Assumes nothing.
 use borrow.Author.Needs.{needs}
-use Rattle.paint_categoric.proofs.Tabled.{tabled}
-use Rattle.paint_categoric.proofs.words4.Statement.{statement}
-use Rattle.paint_categoric.proofs.words4.Tie as tie
+use Rattle.paint_by_table.proofs.Tabled.{tabled}
+use Rattle.paint_by_table.proofs.words4.Statement.{statement}
+use Rattle.paint_by_table.proofs.words4.Tie as tie
 
 gather-requires : tie.Need-gather-requires
 gather-requires c κs = search needs

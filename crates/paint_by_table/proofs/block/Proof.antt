@@ -3,8 +3,8 @@ use mathlib.Core.Path.{refl, _∙_}
 use Rattle.painting.proofs.Masking.{masked-map}
 use Rattle.painting.proofs.Whole.{chunk-is}
 use borrow.Author.Needs.{needs}
-use Rattle.paint_categoric.proofs.block.Statement.{statement}
-use Rattle.paint_categoric.proofs.block.Tie as tie
+use Rattle.paint_by_table.proofs.block.Statement.{statement}
+use Rattle.paint_by_table.proofs.block.Tie as tie
 
 load-requires : tie.Need-load-requires
 load-requires c κs = search needs

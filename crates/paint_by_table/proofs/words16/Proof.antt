@@ -1,8 +1,8 @@
 -- `words16` meets its contract. Assumes nothing.
 use borrow.Author.Needs.{needs}
-use Rattle.paint_categoric.proofs.Tabled.{tabled}
-use Rattle.paint_categoric.proofs.words16.Statement.{statement}
-use Rattle.paint_categoric.proofs.words16.Tie as tie
+use Rattle.paint_by_table.proofs.Tabled.{tabled}
+use Rattle.paint_by_table.proofs.words16.Statement.{statement}
+use Rattle.paint_by_table.proofs.words16.Tie as tie
 
 gather-requires : tie.Need-gather-requires
 gather-requires c κs = search needs
