@@ -6,13 +6,11 @@ use mathlib.Core.Logic.{⊎-elim}
 use Prim.Native.Nat.{ℕ, _≤_, _<_}
 use native.Mathlib.Nat.{eq-or-lt-of-le}
 use native.Mathlib.Omega.{arith}
-use lib.Dec.{T, T-not, lit<}
+use lib.Dec.{T, T-not}
 use lib.Ieee.{Float}
 use lib.IntN.{ℤ, pos}
 use lib.ListN.{getD}
 use lib.Signed.{ltZ, leZ, ≤ℤ-refl}
-use mir.Syntax.{w32}
-use mir.Val.{SFits}
 use Rattle.lists.proofs.Numbers.{lt-or-le}
 use Rattle.cast.specs.declared.Truncated.{Truncated}
 use Rattle.cast.specs.declared.Truncated.the-variants.{Whole, Outside}
@@ -21,30 +19,10 @@ use Rattle.categories.specs.Ascending.{ascends}
 use Rattle.categories.specs.Rule.{eqZ, firstKey, category, unknown, keyRule, ruleColor, keyColor}
 use Rattle.categories.proofs.Ascent.{lt→le, lt-le, lt-apart, counted-below}
 use Rattle.categories.proofs.FirstKey.{eqZ→eq, same-key, found-at, found-nowhere}
-use Rattle.key_search.specs.Searchable.{near}
-use Rattle.key_search.specs.Narrow.{Narrow, none, keyOf}
-use Rattle.key_search.proofs.NearKeys.{they-ascend, they-are-near, near-below, near-fits, none-is-not}
+use Rattle.narrow_keys.specs.Searchable.{near}
+use Rattle.narrow_keys.specs.Narrow.{Narrow, none, keyOf}
+use Rattle.narrow_keys.proofs.NearKeys.{they-ascend, they-are-near, near-below, none-is-not, key-below}
 use Rattle.key_search.proofs.Steps.{Rising, Narrowed}
-
--- a sample's key is below the number that stands after the keys
-key-below : (t : Truncated) → T (ltZ (keyOf t) (pos 2147483647))
-unfolding keyOf
-key-below (Whole z) = go (near z) (λ h. near-below z h)
-  where
-    go : (b : Bool) → (T b → T (ltZ z (pos 2147483647))) → T (ltZ (cond b z none) (pos 2147483647))
-    go true f = f tt
-    go false f = tt
-key-below Outside = tt
-
--- and fits 32 bits
-pub key-fits : (t : Truncated) → SFits w32 (keyOf t)
-unfolding keyOf
-key-fits (Whole z) = go (near z) (near-fits z)
-  where
-    go : (b : Bool) → (T b → SFits w32 z) → SFits w32 (cond b z none)
-    go true f = f tt
-    go false f = record { sfits = lit< tt }
-key-fits Outside = record { sfits = lit< tt }
 
 module _ (keys : List ℤ) (count : ℕ) (narrow : List ℤ) (n : Narrow keys count narrow) where
   abbrev key : ℕ → ℤ

@@ -1,4 +1,2 @@
--- What the contracts cite: keys that can be searched, their narrowing, and a step of the search.
-pub mod Searchable
-pub mod Narrow
+-- What the contracts cite: a step of the search.
 pub mod Halving

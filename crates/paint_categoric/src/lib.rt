@@ -8,7 +8,7 @@ ghost use Prim.Native.Nat.{ℕ, _+_, _≤_};
 ghost use lib.IntN.{ℤ};
 ghost use lib.ListN.{length, take, drop};
 ghost use Rattle.painting.specs.Painted.{plainPainted, chunkOver};
-ghost use Rattle.key_search.specs.Narrow.{Narrow};
+ghost use Rattle.narrow_keys.specs.Narrow.{Narrow};
 ghost use Rattle.paint_categoric.specs.Rules.{keySample};
 
 // ---- by keys that can be searched: the words of a block, a block of a raster, the samples after the last block, and a raster
@@ -127,9 +127,9 @@ pub fn paint_by_keys(
     requires { ⌜ (count ≤ 256) × (length (now out) ≡ length (now src)) ⌝ }
     ensures { λ _. ⌜ now (out .exit) ≡ plainPainted (keySample (now (keys .entry)) (now (colors .entry)) count p) (now (src .entry)) ⌝ }
 {
-    let search = key_search::searchable(keys, count);
+    let search = narrow_keys::searchable(keys, count);
     if search {
-        let narrow = key_search::narrowed(keys, count);
+        let narrow = narrow_keys::narrowed(keys, count);
         paint_by_search(&narrow, colors, p, src, out);
         return;
     }

@@ -8,7 +8,7 @@ use lib.IntN.{ℤ}
 use lib.ListN.{length, length-map}
 use Rattle.painting.proofs.Steps.{InChunks, chunks-start, chunk-turn, chunks-end}
 use Rattle.painting.proofs.Splitting.{plain-in-blocks}
-use Rattle.key_search.specs.Narrow.{Narrow}
+use Rattle.narrow_keys.specs.Narrow.{Narrow}
 use Rattle.paint_categoric.specs.Rules.{keySample}
 use Rattle.paint_categoric.proofs.paint_by_search.Statement.{statement}
 use Rattle.paint_categoric.proofs.paint_by_search.Tie as tie

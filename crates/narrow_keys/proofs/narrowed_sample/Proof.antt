@@ -5,9 +5,9 @@ use lib.IntN.{ℤ}
 use mir.Syntax.{w32, w64}
 use mir.ValLaws.{toZ-ofZ}
 use Rattle.cast.specs.declared.Truncated.the-variants.{Whole}
-use Rattle.key_search.specs.Narrow.{keyOf}
-use Rattle.key_search.proofs.narrowed_sample.Statement.{statement}
-use Rattle.key_search.proofs.narrowed_sample.Tie as tie
+use Rattle.narrow_keys.specs.Narrow.{keyOf}
+use Rattle.narrow_keys.proofs.narrowed_sample.Statement.{statement}
+use Rattle.narrow_keys.proofs.narrowed_sample.Tie as tie
 
 to-i64-requires : tie.Need-to-i64-requires
 to-i64-requires c κs = search needs

@@ -7,7 +7,7 @@ use lib.IntN.{ℤ, pos, negsuc}
 use lib.ListN.{getD}
 use Rattle.cast.specs.declared.Truncated.{Truncated}
 use Rattle.cast.specs.declared.Truncated.the-variants.{Whole, Outside}
-use Rattle.key_search.specs.Searchable.{near, searchable}
+use Rattle.narrow_keys.specs.Searchable.{near, searchable}
 
 -- 256 numbers: the counted keys, which can be searched, and then one that is above every key
 pub record Narrow (keys : List ℤ) (count : ℕ) (narrow : List ℤ) : Type 0 where

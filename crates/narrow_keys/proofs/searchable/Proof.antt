@@ -1,8 +1,8 @@
 -- `searchable` meets its contract. Assumes nothing.
 use borrow.Author.Needs.{needs}
-use Rattle.key_search.specs.Searchable.{searchable}
-use Rattle.key_search.proofs.searchable.Statement.{statement}
-use Rattle.key_search.proofs.searchable.Tie as tie
+use Rattle.narrow_keys.specs.Searchable.{searchable}
+use Rattle.narrow_keys.proofs.searchable.Statement.{statement}
+use Rattle.narrow_keys.proofs.searchable.Tie as tie
 
 ascending-requires : tie.Need-ascending-requires
 ascending-requires c κs = search needs

@@ -7,11 +7,11 @@ use mir.Syntax.{w32, w64}
 use mir.Val.{SFits, toZ}
 use mir.ValLaws.{toZ-ofZ}
 use Rattle.cast.specs.declared.Truncated.the-variants.{Whole}
-use Rattle.key_search.specs.Searchable.{near}
-use Rattle.key_search.specs.Narrow.{none, keyOf}
-use Rattle.key_search.proofs.Sought.{key-fits}
-use Rattle.key_search.proofs.narrowed_key.Statement.{statement}
-use Rattle.key_search.proofs.narrowed_key.Tie as tie
+use Rattle.narrow_keys.specs.Searchable.{near}
+use Rattle.narrow_keys.specs.Narrow.{none, keyOf}
+use Rattle.narrow_keys.proofs.NearKeys.{key-fits}
+use Rattle.narrow_keys.proofs.narrowed_key.Statement.{statement}
+use Rattle.narrow_keys.proofs.narrowed_key.Tie as tie
 
 kept-is : (c : tie.Joined1) → toZ w64 (c .if1 .kept) ≡ keyOf (Whole (c .before .before .args .key))
 unfolding keyOf

@@ -10,9 +10,9 @@ use mir.Syntax.{w32}
 use mir.ValLaws.{toZ-ofZ}
 use Rattle.lists.proofs.Filling.{Filling, filling-start, filling-turn, filling-end}
 use Rattle.cast.specs.Truncated.{truncated}
-use Rattle.key_search.specs.Narrow.{keyOf}
-use Rattle.key_search.proofs.narrowed_samples.Statement.{statement}
-use Rattle.key_search.proofs.narrowed_samples.Tie as tie
+use Rattle.narrow_keys.specs.Narrow.{keyOf}
+use Rattle.narrow_keys.proofs.narrowed_samples.Statement.{statement}
+use Rattle.narrow_keys.proofs.narrowed_samples.Tie as tie
 
 abbrev Inv-loop : tie.InvT-loop
 Inv-loop value result₀ i₀ result i = Filling (pos 0) (λ k. keyOf (truncated (getD value k nan))) 16 16 i result

@@ -1,8 +1,8 @@
 -- `near` meets its contract. Assumes nothing.
 use borrow.Author.Needs.{needs}
-use Rattle.key_search.specs.Searchable.{near}
-use Rattle.key_search.proofs.near.Statement.{statement}
-use Rattle.key_search.proofs.near.Tie as tie
+use Rattle.narrow_keys.specs.Searchable.{near}
+use Rattle.narrow_keys.proofs.near.Statement.{statement}
+use Rattle.narrow_keys.proofs.near.Tie as tie
 
 returns : tie.Need-returns
 unfolding near

@@ -4,10 +4,10 @@ use mathlib.Core.Path.{sym, ap, ap₂, _∙_}
 use mathlib.Core.Bool.{Bool, _&&_}
 use mir.Syntax.{w64}
 use mir.ValLaws.{toZ-ofZ}
-use Rattle.key_search.specs.Searchable.{near, endsNear}
-use Rattle.key_search.proofs.NearKeys.{ends-of}
-use Rattle.key_search.proofs.ends_near.Statement.{statement}
-use Rattle.key_search.proofs.ends_near.Tie as tie
+use Rattle.narrow_keys.specs.Searchable.{near, endsNear}
+use Rattle.narrow_keys.proofs.NearKeys.{ends-of}
+use Rattle.narrow_keys.proofs.ends_near.Statement.{statement}
+use Rattle.narrow_keys.proofs.ends_near.Tie as tie
 
 returns : tie.Need-returns
 unfolding endsNear

@@ -1,22 +1,24 @@
 -- Keys near 0: each of them is where the ends are, and their narrowing to 32 bits. Assumes nothing.
 use mathlib.Core.Path.{_≡_, refl, sym, subst, ap}
-use mathlib.Core.Bool.{Bool, true, false, _&&_}
+use mathlib.Core.Bool.{Bool, true, false, cond, _&&_}
 use mathlib.Core.List.{List}
 use mathlib.Core.Logic.{⊎-elim}
 use Prim.Native.Nat.{ℕ, zero, suc, _-_, _<_}
 use native.Mathlib.Nat.{eq-or-lt-of-le}
 use native.Mathlib.Omega.{arith}
-use lib.Dec.{T, ltb→lt}
+use lib.Dec.{T, ltb→lt, lit<}
 use lib.Ieee.Fits.{and-l, and-r}
 use lib.IntN.{ℤ, pos, negsuc}
 use lib.ListN.{getD}
 use lib.Signed.{mag, ltZ}
 use mir.Syntax.{w32}
 use mir.Val.{SFits}
+use Rattle.cast.specs.declared.Truncated.{Truncated}
+use Rattle.cast.specs.declared.Truncated.the-variants.{Whole, Outside}
 use Rattle.categories.specs.Ascending.{ascends}
 use Rattle.categories.proofs.Ascent.{lt-lt, counted-below}
-use Rattle.key_search.specs.Searchable.{near, endsNear, searchable}
-use Rattle.key_search.specs.Narrow.{none}
+use Rattle.narrow_keys.specs.Searchable.{near, endsNear, searchable}
+use Rattle.narrow_keys.specs.Narrow.{none, keyOf}
 
 both-of : (a b : Bool) → T a → T b → T (a && b)
 both-of true b x y = y
@@ -77,3 +79,24 @@ small (negsuc n) l h = let q = ltb→lt n 16777216 l in omega arith
 pub near-fits : (z : ℤ) → T (near z) → SFits w32 z
 unfolding near
 near-fits z h = record { sfits = small z (and-l (ltZ none z) (ltZ z (pos 16777217)) h) (and-r (ltZ none z) (ltZ z (pos 16777217)) h) }
+
+-- ---- a sample's key
+-- a sample's key is below the number that stands after the keys
+pub key-below : (t : Truncated) → T (ltZ (keyOf t) (pos 2147483647))
+unfolding keyOf
+key-below (Whole z) = go (near z) (λ h. near-below z h)
+  where
+    go : (b : Bool) → (T b → T (ltZ z (pos 2147483647))) → T (ltZ (cond b z none) (pos 2147483647))
+    go true f = f tt
+    go false f = tt
+key-below Outside = tt
+
+-- and fits 32 bits
+pub key-fits : (t : Truncated) → SFits w32 (keyOf t)
+unfolding keyOf
+key-fits (Whole z) = go (near z) (near-fits z)
+  where
+    go : (b : Bool) → (T b → SFits w32 z) → SFits w32 (cond b z none)
+    go true f = f tt
+    go false f = record { sfits = lit< tt }
+key-fits Outside = record { sfits = lit< tt }

@@ -10,9 +10,9 @@ use mir.Syntax.{w32, w64}
 use mir.Val.{SFits}
 use mir.ValLaws.{toZ-ofZ}
 use Rattle.lists.proofs.Filling.{Filling, filling-start, filling-turn, filling-end}
-use Rattle.key_search.proofs.NearKeys.{they-are-near, near-fits}
-use Rattle.key_search.proofs.narrowed.Statement.{statement}
-use Rattle.key_search.proofs.narrowed.Tie as tie
+use Rattle.narrow_keys.proofs.NearKeys.{they-are-near, near-fits}
+use Rattle.narrow_keys.proofs.narrowed.Statement.{statement}
+use Rattle.narrow_keys.proofs.narrowed.Tie as tie
 
 abbrev Inv-loop : tie.InvT-loop
 Inv-loop keys count result₀ i₀ result i = Filling (pos 0) (λ k. getD keys k (pos 0)) 256 count i result × ((k : ℕ) → i ≤ k → k < 256 → getD result k (pos 0) ≡ pos 2147483647)

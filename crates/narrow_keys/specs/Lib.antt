@@ -1,0 +1,3 @@
+-- What the contracts cite: keys that can be searched, and their narrowing.
+pub mod Searchable
+pub mod Narrow
