@@ -13,7 +13,8 @@ use lib.ListN.{getD}
 use mir.Syntax.{Width}
 use mir.Val.{SFits, ofZ, toZ}
 use mir.ValLaws.{toZ-ofZ}
-use Rattle.categories.specs.Rule.{category, unknown, eqZ, firstKey}
+use Rattle.table_words.specs.Rule.{category, unknown}
+use Rattle.categories.specs.Rule.{eqZ, firstKey}
 
 -- ---- the same key
 pub eqZ→eq : (a b : ℤ) → T (eqZ a b) → a ≡ b

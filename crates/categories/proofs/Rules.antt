@@ -14,7 +14,8 @@ use mir.ValLaws.{toZ-ofZ}
 use Rattle.cast.specs.declared.Truncated.{Truncated}
 use Rattle.cast.specs.declared.Truncated.the-variants.{Whole, Outside}
 use Rattle.cast.specs.Truncated.{truncated}
-use Rattle.categories.specs.Rule.{Rule, word, category, unknown, tableRule, eqZ, firstKey, keyRule, plainRule, ruleColor, plainColor, tableColor, keyColor, laneColors}
+use Rattle.table_words.specs.Rule.{Rule, word, category, unknown, tableRule, ruleColor, tableColor, laneColors}
+use Rattle.categories.specs.Rule.{eqZ, firstKey, keyRule, plainRule, plainColor, keyColor}
 
 -- a table has no entries, and keys have no words
 table-only : (lookup xs ys : List ℕ) (size nodata : ℕ) (t : Truncated) → ruleColor lookup xs nodata (tableRule size t) ≡ ruleColor lookup ys nodata (tableRule size t)

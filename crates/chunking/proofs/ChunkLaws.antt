@@ -23,6 +23,7 @@ use Rattle.band_lanes.specs.LaneRule as lanes
 use Rattle.band_lanes.proofs.LaneLaw as band-law
 use Rattle.banded.specs.Record.{counted}
 use Rattle.banded.specs.Unmappable.{bandedUnmappable}
+use Rattle.table_words.specs.Rule as words
 use Rattle.categories.specs.Rule as categories
 use Rattle.categories.proofs.Rules.{with-table}
 use Rattle.legend.specs.declared.Legend.{Legend}
@@ -103,6 +104,6 @@ module _ (l : Legend) (nodata : Nodata) (L : ℕ) where
       (band-law.lane-length bs u) (λ c k q e. band-law.lane-law bs h u c k (real nodata (l .«mapping_config» .«zero_is_nodata») (getD c k nan) e)) L
   of-kind kind.CategoricNumeric h s =
       let m = l .categoric in let nd = l .«mapping_config» .«nodata_color» in
-      by-chunk test nd (categories.laneColors (m .lookup) (m .«lookup_count») nd) (categories.plainColor (m .keys) (m .colors) (m .count) (m .lookup) (m .«lookup_count») nd) _
+      by-chunk test nd (words.laneColors (m .lookup) (m .«lookup_count») nd) (categories.plainColor (m .keys) (m .colors) (m .count) (m .lookup) (m .«lookup_count») nd) _
       (λ c. length-map c _)
-      (λ c k q e. sym (getD-map-in (categories.tableColor (m .lookup) (m .«lookup_count») nd) c k nan 0 q) ∙ with-table (m .keys) (m .colors) (m .count) (m .lookup) (m .«lookup_count») nd (ltb-true 0 (m .«lookup_count») s) (getD c k nan)) L
+      (λ c k q e. sym (getD-map-in (words.tableColor (m .lookup) (m .«lookup_count») nd) c k nan 0 q) ∙ with-table (m .keys) (m .colors) (m .count) (m .lookup) (m .«lookup_count») nd (ltb-true 0 (m .«lookup_count») s) (getD c k nan)) L

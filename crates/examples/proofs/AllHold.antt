@@ -18,6 +18,7 @@ use Rattle.band_lanes.specs.LaneRule.{edged, scanned, laneColors}
 use Rattle.band_lists.specs.EqualBands.{bandStep, bandStart, equalBands, equalRefusal}
 use Rattle.banded.specs.Record.{bandedOf, beside}
 use Rattle.banded.specs.EqualBands.{withEqualBands}
+use Rattle.table_words.specs.Rule as words
 use Rattle.categories.specs.Rule as rule
 use Rattle.sorted_keys.specs.Categories.{inserted, firstOf}
 use Rattle.lookup_table.specs.Table.{foremost, tabled, tableSize, written, table}
@@ -26,5 +27,5 @@ use Rattle.catgegoric.specs.Made.{recordOf, madeUnless, manyRefusal, valuesRefu
 use Rattle.examples.specs.Examples.{gray, G, categoryOf, asked, examples, allHold}
 
 pub all-hold : T (allHold examples)
-unfolding allHold examples asked gray G categoryOf tabulate padded wordOf hexColor hexForm hexDigit twoDigits hexPair pairAt alphaOf ofPairs truncated plainIndex laneIndex fraction plainFraction plainEntry laneEntry step position rampColors unmappable linear.plainRule linear.laneRule linear.plainColor linear.laneColor lastOf firstBand edges plainRule bandColor ruleColor edged scanned laneColors bandedOf beside bandStep bandStart equalBands equalRefusal withEqualBands rule.tableRule rule.firstKey rule.keyRule rule.plainRule rule.plainColor rule.tableColor rule.keyColor inserted firstOf foremost tabled tableSize written table outsideFrom recordOf madeUnless manyRefusal valuesRefusal add sub mul div lt le eq isNan ofInt ofBits
+unfolding allHold examples asked gray G categoryOf tabulate padded wordOf hexColor hexForm hexDigit twoDigits hexPair pairAt alphaOf ofPairs truncated plainIndex laneIndex fraction plainFraction plainEntry laneEntry step position rampColors unmappable linear.plainRule linear.laneRule linear.plainColor linear.laneColor lastOf firstBand edges plainRule bandColor ruleColor edged scanned laneColors bandedOf beside bandStep bandStart equalBands equalRefusal withEqualBands words.tableRule rule.firstKey rule.keyRule rule.plainRule rule.plainColor words.tableColor rule.keyColor inserted firstOf foremost tabled tableSize written table outsideFrom recordOf madeUnless manyRefusal valuesRefusal add sub mul div lt le eq isNan ofInt ofBits
 all-hold = tt

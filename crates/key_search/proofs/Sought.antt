@@ -16,7 +16,8 @@ use Rattle.cast.specs.declared.Truncated.{Truncated}
 use Rattle.cast.specs.declared.Truncated.the-variants.{Whole, Outside}
 use Rattle.cast.specs.Truncated.{truncated}
 use Rattle.categories.specs.Ascending.{ascends}
-use Rattle.categories.specs.Rule.{eqZ, firstKey, category, unknown, keyRule, ruleColor, keyColor}
+use Rattle.table_words.specs.Rule.{category, unknown, ruleColor}
+use Rattle.categories.specs.Rule.{eqZ, firstKey, keyRule, keyColor}
 use Rattle.categories.proofs.Ascent.{lt→le, lt-le, lt-apart, counted-below}
 use Rattle.categories.proofs.FirstKey.{eqZ→eq, same-key, found-at, found-nowhere}
 use Rattle.narrow_keys.specs.Searchable.{near}

@@ -20,6 +20,7 @@ use Rattle.band_lanes.specs.LaneRule as lanes
 use Rattle.banded.specs.declared.Banded.{Banded}
 use Rattle.banded.specs.Record.{counted, bandedRefusal}
 use Rattle.banded.specs.Unmappable.{bandedUnmappable}
+use Rattle.table_words.specs.Rule as words
 use Rattle.categories.specs.Rule as categories
 use Rattle.catgegoric.specs.declared.CategoricNumeric.{CategoricNumeric}
 use Rattle.catgegoric.specs.Made.{categoricRefusal}
@@ -51,7 +52,7 @@ unfoldable pub categoricPainter : CategoricNumeric → MappingConfig → Nodata 
 categoricPainter c config nodata =
     settled (categoricRefusal (c .count) (c .«lookup_count»)) (ltb 0 (c .«lookup_count»)) config nodata
     (categories.plainColor (c .keys) (c .colors) (c .count) (c .lookup) (c .«lookup_count») (config .«nodata_color»))
-    (categories.laneColors (c .lookup) (c .«lookup_count») (config .«nodata_color»))
+    (words.laneColors (c .lookup) (c .«lookup_count») (config .«nodata_color»))
 
 abbrev pub painterIn : LegendKind → Legend → Nodata → Painter
 painterIn kind.Linear l nodata = linearPainter (l .linear) (l .«mapping_config») nodata

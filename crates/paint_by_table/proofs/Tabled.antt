@@ -11,9 +11,9 @@ use Rattle.colormapper.specs.Unmappable.{excluded}
 use Rattle.painting.specs.Masked.{maskedColor}
 use Rattle.painting.proofs.Lists.{lanes-list}
 use Rattle.painting.proofs.Masking.{masked-map}
-use Rattle.categories.specs.Rule.{tableColor}
-use Rattle.categories.specs.InTable.{kept, shown}
-use Rattle.categories.proofs.Phases.{in-two-phases}
+use Rattle.table_words.specs.Rule.{tableColor}
+use Rattle.table_words.specs.InTable.{kept, shown}
+use Rattle.table_words.proofs.Phases.{in-two-phases}
 use Rattle.paint_by_table.specs.declared.CategoricPaint.{CategoricPaint}
 use Rattle.paint_by_table.specs.Rules.{tableChunk}
 

@@ -4,7 +4,7 @@ use mathlib.Core.List.{List}
 use lib.Ieee.{Float}
 use Rattle.colormapper.specs.Unmappable.{excluded}
 use Rattle.painting.specs.Masked.{masked, maskedColor}
-use Rattle.categories.specs.Rule.{tableColor, laneColors}
+use Rattle.table_words.specs.Rule.{tableColor, laneColors}
 use Rattle.paint_by_table.specs.declared.CategoricPaint.{CategoricPaint}
 
 abbrev pub tableSample : (lookup : List ℕ) (size : ℕ) → CategoricPaint → Float → ℕ

@@ -23,24 +23,24 @@ fn words4(lookup: &[u32; 513], size: usize, p: CategoricPaint, v: [f32; 16]) -> 
     requires { ⌜ size ≤ 513 ⌝ }
     ensures { λ d. ⌜ take 4 d ≡ tableChunk (now (lookup .entry)) size p (take 4 v) ⌝ }
 {
-    let words = categories::gather(4, lookup, size, v);
-    categories::known(4, size, p.nodata, p.exclusions, v, words)
+    let words = table_words::gather(4, lookup, size, v);
+    table_words::known(4, size, p.nodata, p.exclusions, v, words)
 }
 
 fn words8(lookup: &[u32; 513], size: usize, p: CategoricPaint, v: [f32; 16]) -> [u32; 16]
     requires { ⌜ size ≤ 513 ⌝ }
     ensures { λ d. ⌜ take 8 d ≡ tableChunk (now (lookup .entry)) size p (take 8 v) ⌝ }
 {
-    let words = categories::gather(8, lookup, size, v);
-    categories::known(8, size, p.nodata, p.exclusions, v, words)
+    let words = table_words::gather(8, lookup, size, v);
+    table_words::known(8, size, p.nodata, p.exclusions, v, words)
 }
 
 fn words16(lookup: &[u32; 513], size: usize, p: CategoricPaint, v: [f32; 16]) -> [u32; 16]
     requires { ⌜ size ≤ 513 ⌝ }
     ensures { λ d. ⌜ take 16 d ≡ tableChunk (now (lookup .entry)) size p (take 16 v) ⌝ }
 {
-    let words = categories::gather(16, lookup, size, v);
-    categories::known(16, size, p.nodata, p.exclusions, v, words)
+    let words = table_words::gather(16, lookup, size, v);
+    table_words::known(16, size, p.nodata, p.exclusions, v, words)
 }
 
 // ---- one chunk of a raster

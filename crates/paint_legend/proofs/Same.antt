@@ -23,6 +23,7 @@ use Rattle.banded.specs.declared.Banded.{Banded}
 use Rattle.banded.specs.Record.{counted}
 use Rattle.banded.specs.Unmappable.{bandedUnmappable}
 use Rattle.band_columns.proofs.Unpacking.{repacked}
+use Rattle.table_words.specs.Rule as words
 use Rattle.categories.specs.Rule as categories
 use Rattle.categories.proofs.Rules.{with-table, without-table}
 use Rattle.catgegoric.specs.declared.CategoricNumeric.{CategoricNumeric}
@@ -102,7 +103,7 @@ module _ (config : MappingConfig) (nodata : Nodata) where
 
     pub table-chunk : tableChunk (c .lookup) (c .«lookup_count») (categoricPaint config nodata) ≡ categoricPainter c config nodata .chunk
     unfolding categoricPainter
-    table-chunk = ap (λ t vs. masked t (config .«nodata_color») vs (categories.laneColors (c .lookup) (c .«lookup_count») (config .«nodata_color») vs)) tested
+    table-chunk = ap (λ t vs. masked t (config .«nodata_color») vs (words.laneColors (c .lookup) (c .«lookup_count») (config .«nodata_color») vs)) tested
 
     pub key-sample : c .«lookup_count» ≡ 0 → keySample (c .keys) (c .colors) (c .count) (categoricPaint config nodata) ≡ categoricPainter c config nodata .plain
     unfolding categoricPainter

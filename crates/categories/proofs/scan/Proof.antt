@@ -10,7 +10,7 @@ use lib.IntN.{pos}
 use mir.Syntax.{w64}
 use mir.Val.{toZ, ofZ}
 use mir.ValLaws.{toZ-ofZ}
-use Rattle.categories.specs.Rule.{ruleColor}
+use Rattle.table_words.specs.Rule.{ruleColor}
 use Rattle.categories.proofs.FirstKey.{same-bits, found-at, found-nowhere}
 use Rattle.categories.proofs.scan.Statement.{statement}
 use Rattle.categories.proofs.scan.Tie as tie

@@ -22,8 +22,8 @@ use Rattle.cast.specs.Truncated.{cut, truncated}
 use Rattle.cast.proofs.Value.{nothing}
 use Rattle.cast.proofs.Lossless.{exact}
 use Rattle.cast.proofs.Table.{tableEnd, Missed, missed}
-use Rattle.categories.specs.Rule.{Rule, word, unknown, tableRule, ruleColor, tableColor}
-use Rattle.categories.specs.InTable.{minusOne, limit, inTable, raised, kept, arrayEnd, isPlace}
+use Rattle.table_words.specs.Rule.{Rule, word, unknown, tableRule, ruleColor, tableColor}
+use Rattle.table_words.specs.InTable.{minusOne, limit, inTable, raised, kept, arrayEnd, isPlace}
 
 by-cond : (P : Float → Type 0) (b : Bool) (x y : Float) → (T b → P x) → (T (not b) → P y) → P (cond b x y)
 by-cond P true x y f g = f tt

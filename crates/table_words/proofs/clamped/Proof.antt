@@ -5,9 +5,9 @@ use mathlib.Core.Logic.{⊎-elim}
 use mathlib.Core.Path.{_≡_, sym, ap, _∙_}
 use lib.Ieee.{ofBits, lt}
 use Rattle.floats.specs.RampIndex.{nought}
-use Rattle.categories.specs.InTable.{limit, kept}
-use Rattle.categories.proofs.clamped.Statement.{statement}
-use Rattle.categories.proofs.clamped.Tie as tie
+use Rattle.table_words.specs.InTable.{limit, kept}
+use Rattle.table_words.proofs.clamped.Statement.{statement}
+use Rattle.table_words.proofs.clamped.Tie as tie
 
 limit-of-requires : tie.Need-limit-of-requires
 limit-of-requires c κs = search needs

@@ -7,9 +7,9 @@ use lib.ListN.{getD}
 use lib.Ieee.{nan, ofBits}
 use Rattle.lists.proofs.Filling.{Filling, filling-start, filling-turn, filling-end}
 use Rattle.floats.specs.RampIndex.{floorOf}
-use Rattle.categories.proofs.TableTest.{place-from, place-below, place-lt}
-use Rattle.categories.proofs.words_at.Statement.{statement}
-use Rattle.categories.proofs.words_at.Tie as tie
+use Rattle.table_words.proofs.TableTest.{place-from, place-below, place-lt}
+use Rattle.table_words.proofs.words_at.Statement.{statement}
+use Rattle.table_words.proofs.words_at.Tie as tie
 
 abbrev Inv-loop : tie.InvT-loop
 Inv-loop lanes lookup places result₀ i₀ result i = Filling 0 (λ k. getD lookup (floorOf (getD places k nan)) 0) 16 lanes i result

@@ -3,10 +3,10 @@ use mathlib.Core.Path.{sym, ap}
 use native.Mathlib.Omega.{arith}
 use lib.Ieee.{ofBits, neg, inFloat}
 use lib.Dec.{le→leb}
-use Rattle.categories.specs.InTable.{limit}
-use Rattle.categories.proofs.TableTest.{limit-above}
-use Rattle.categories.proofs.limit_of.Statement.{statement}
-use Rattle.categories.proofs.limit_of.Tie as tie
+use Rattle.table_words.specs.InTable.{limit}
+use Rattle.table_words.proofs.TableTest.{limit-above}
+use Rattle.table_words.proofs.limit_of.Statement.{statement}
+use Rattle.table_words.proofs.limit_of.Tie as tie
 
 int-to-float-result : tie.Need-int-to-float-result
 unfolding inFloat

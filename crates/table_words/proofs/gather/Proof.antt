@@ -5,10 +5,10 @@ use lib.Dec.{T}
 use lib.Ieee.{nan}
 use lib.ListN.{getD}
 use Rattle.floats.specs.RampIndex.{floorOf}
-use Rattle.categories.specs.InTable.{isPlace}
-use Rattle.categories.proofs.TableTest.{kept-place}
-use Rattle.categories.proofs.gather.Statement.{statement}
-use Rattle.categories.proofs.gather.Tie as tie
+use Rattle.table_words.specs.InTable.{isPlace}
+use Rattle.table_words.proofs.TableTest.{kept-place}
+use Rattle.table_words.proofs.gather.Statement.{statement}
+use Rattle.table_words.proofs.gather.Tie as tie
 
 clamped-lanes-requires : tie.Need-clamped-lanes-requires
 clamped-lanes-requires c κs = search needs

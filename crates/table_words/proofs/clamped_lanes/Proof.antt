@@ -5,9 +5,9 @@ use native.Mathlib.Omega.{arith}
 use lib.ListN.{getD}
 use lib.Ieee.{nan}
 use Rattle.lists.proofs.Filling.{Filling, filling-start, filling-turn, filling-end}
-use Rattle.categories.specs.InTable.{kept}
-use Rattle.categories.proofs.clamped_lanes.Statement.{statement}
-use Rattle.categories.proofs.clamped_lanes.Tie as tie
+use Rattle.table_words.specs.InTable.{kept}
+use Rattle.table_words.proofs.clamped_lanes.Statement.{statement}
+use Rattle.table_words.proofs.clamped_lanes.Tie as tie
 
 abbrev Inv-loop : tie.InvT-loop
 Inv-loop lanes size value result₀ i₀ result i = Filling nan (λ k. kept size (getD value k nan)) 16 lanes i result

@@ -7,9 +7,9 @@ use native.Mathlib.Omega.{arith}
 use lib.ListN.{getD}
 use lib.Ieee.{nan}
 use Rattle.lists.proofs.Filling.{Filling, filling-start, filling-turn, filling-end}
-use Rattle.categories.specs.InTable.{shown}
-use Rattle.categories.proofs.known.Statement.{statement}
-use Rattle.categories.proofs.known.Tie as tie
+use Rattle.table_words.specs.InTable.{shown}
+use Rattle.table_words.proofs.known.Statement.{statement}
+use Rattle.table_words.proofs.known.Tie as tie
 
 abbrev Inv-loop : tie.InvT-loop
 Inv-loop lanes size nodata value words absent zero result₀ i₀ result i = Filling 0 (λ k. cond (shown (record { nodata = absent; zero = zero }) size (getD value k nan)) (getD words k 0) nodata) 16 lanes i result

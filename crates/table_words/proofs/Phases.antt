@@ -9,9 +9,9 @@ use Rattle.floats.specs.RampIndex.{floorOf}
 use Rattle.lists.specs.Lanes.{Lanes}
 use Rattle.colormapper.specs.declared.Exclusions.{Exclusions}
 use Rattle.colormapper.specs.Unmappable.{excluded}
-use Rattle.categories.specs.Rule.{tableColor}
-use Rattle.categories.specs.InTable.{inTable, kept, shown}
-use Rattle.categories.proofs.TableTest.{chosen}
+use Rattle.table_words.specs.Rule.{tableColor}
+use Rattle.table_words.specs.InTable.{inTable, kept, shown}
+use Rattle.table_words.proofs.TableTest.{chosen}
 
 -- ---- both tests give nodata, so one choice does for two; a NaN, which is excluded, is in no table
 one-choice : (t a b : Bool) (w nodata : ℕ) → cond ((t && not a) && not b) w nodata ≡ cond (a || b) nodata (cond t w nodata)

@@ -3,9 +3,9 @@ use borrow.Author.Needs.{needs}
 use mathlib.Core.Bool.{_&&_}
 use mathlib.Core.Path.{ap}
 use lib.Ieee.{ofBits, neg, lt}
-use Rattle.categories.specs.InTable.{minusOne, inTable}
-use Rattle.categories.proofs.in_table.Statement.{statement}
-use Rattle.categories.proofs.in_table.Tie as tie
+use Rattle.table_words.specs.InTable.{minusOne, inTable}
+use Rattle.table_words.proofs.in_table.Statement.{statement}
+use Rattle.table_words.proofs.in_table.Tie as tie
 
 limit-of-requires : tie.Need-limit-of-requires
 limit-of-requires c κs = search needs

@@ -1,0 +1,3 @@
+-- The law that other crates cite, and what the proofs of this crate share.
+pub mod Phases
+mod TableTest
