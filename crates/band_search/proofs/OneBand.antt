@@ -14,9 +14,9 @@ use Rattle.bands.specs.PlainRule.{plainColor}
 use Rattle.bands.specs.Packed.{bandAt, packed}
 use Rattle.bands.specs.Parts.{firstColor, edgeColor}
 use Rattle.bands.proofs.Forms.{plain-packed}
-use Rattle.band_search.specs.Apart.{apart}
-use Rattle.band_search.specs.Place.{placeOf, colorAt}
-use Rattle.band_search.proofs.Counting.{place-below, no-other}
+use Rattle.band_places.specs.Apart.{apart}
+use Rattle.band_places.specs.Place.{placeOf, colorAt}
+use Rattle.band_places.proofs.Counting.{place-below, no-other}
 
 no-is : (t : Bool) (x y : ℕ) → T (not t) → cond t x y ≡ y
 no-is true x y h = absurd h

@@ -22,9 +22,9 @@ use Rattle.band_lanes.specs.Parts.{allBelow, Sweep, swept, Scanned}
 use Rattle.band_lanes.proofs.Entries.{same-rule, front, map-rule}
 use Rattle.bands.proofs.Forms.{drop-band, drop-end}
 use Rattle.band_lanes.proofs.Chunk.{below-same, all-inside}
-use Rattle.band_search.specs.Apart.{apart}
-use Rattle.band_search.specs.Place.{placeOf, heldAt, colorAt, Placed}
-use Rattle.band_search.proofs.Counting.{place-below, no-other}
+use Rattle.band_places.specs.Apart.{apart}
+use Rattle.band_places.specs.Place.{placeOf, heldAt, colorAt, Placed}
+use Rattle.band_places.proofs.Counting.{place-below, no-other}
 
 -- ---- tests
 is-true : (t : Bool) → T t → t ≡ true

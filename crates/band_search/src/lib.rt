@@ -1,32 +1,17 @@
-// Bands that ascend without overlap: at most one of them holds a sample, and its place is found by counting (docs/RULES.md,
+// Bands that ascend without overlap: at most one of them holds a sample, the one at its place (`band_places`; docs/RULES.md,
 // "Banded"). A list of bands comes as in `bands`, with a count of at most 64.
 use colormapper::UnmappableColors;
 ghost use mathlib.Core.Path.{_≡_};
 ghost use mathlib.Core.Bool.{true, cond};
-ghost use Prim.Native.Nat.{_+_, _≤_, _<_};
-ghost use lib.Ieee.{nan, le};
+ghost use Prim.Native.Nat.{_≤_};
+ghost use lib.Ieee.{nan};
 ghost use lib.ListN.{getD};
 ghost use Rattle.lists.specs.Lanes.{Lanes};
 ghost use Rattle.bands.specs.Packed.{packed};
 ghost use Rattle.bands.specs.PlainRule.{plainColor};
 ghost use Rattle.band_lanes.specs.Parts.{allBelow};
-ghost use Rattle.band_search.specs.Apart.{apart};
-ghost use Rattle.band_search.specs.Place.{heldAt, colorAt, InArrays, Placed};
-
-// Whether no counted band starts below the start or the end of the one before it: asked once a painting.
-pub fn apart(starts: &[f32; 64], ends: &[f32; 64], count: usize) -> bool
-    requires { ⌜ count ≤ 64 ⌝ }
-    ensures { λ r. ⌜ r ≡ apart (now (starts .entry)) (now (ends .entry)) count ⌝ }
-{
-    let mut result = true;
-    let mut i: usize = 1;
-    while i < count {
-        let before = i - 1;
-        result = result & (starts[before] <= starts[i]) & (ends[before] <= starts[i]);
-        i += 1;
-    }
-    result
-}
+ghost use Rattle.band_places.specs.Apart.{apart};
+ghost use Rattle.band_places.specs.Place.{heldAt, colorAt, InArrays};
 
 // The colours of sixteen samples at once, by the plain rule.
 pub fn colors_for_numeric_values(
@@ -46,40 +31,11 @@ pub fn colors_for_numeric_values(
     let first = bands::band_at(starts, ends, colors, 0);
     let last = bands::band_at(starts, ends, colors, count - 1);
     let edged = bands::edge_colors(first, last, u, value);
-    let places = places_of(16, starts, count, value);
+    let places = band_places::places_of(16, starts, count, value);
     colors_at(16, starts, ends, colors, places, value, edged)
 }
 
 // ---- the phases, for a lane count that is a literal of the caller's: so they are vectorised
-
-// The place of the one band that can hold each lane's sample: a band that starts above the sample does not count.
-pub fn places_of(lanes: usize, starts: &[f32; 64], count: usize, value: [f32; 16]) -> [u32; 16]
-    requires { ⌜ (lanes ≤ 16) × (count ≤ 64) ⌝ }
-    ensures { λ r. ⌜ Placed lanes (now (starts .entry)) count value r ⌝ }
-{
-    let mut result = [0u32; 16];
-    let mut i: usize = 1;
-    while i < count {
-        let next = moved(lanes, starts[i], value, result);
-        result = next;
-        i += 1;
-    }
-    result
-}
-
-// Each lane's place moved on where a start is not above its sample.
-fn moved(lanes: usize, start: f32, value: [f32; 16], places: [u32; 16]) -> [u32; 16]
-    requires { ⌜ (lanes ≤ 16) × InArrays lanes places ⌝ }
-    ensures { λ r. ⌜ Lanes 0 lanes r (λ k. getD places k 0 + cond (le start (getD value k nan)) 1 0) ⌝ }
-{
-    let mut result = [0u32; 16];
-    let mut i: usize = 0;
-    while i < lanes {
-        result[i] = places[i] + ((start <= value[i]) as u32);
-        i += 1;
-    }
-    result
-}
 
 // The colour of the band at each lane's place where it holds the sample, else another.
 pub fn colors_at(

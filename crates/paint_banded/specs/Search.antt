@@ -4,7 +4,7 @@ use mathlib.Core.Path.{_≡_}
 use mathlib.Core.Bool.{true}
 use mathlib.Core.List.{List}
 use lib.Ieee.{Float}
-use Rattle.band_search.specs.Apart.{apart}
+use Rattle.band_places.specs.Apart.{apart}
 
 -- there are bands, and they are apart
 pub record Searchable (starts ends : List Float) (count : ℕ) : Type 0 where

@@ -9,7 +9,7 @@ ghost use mathlib.Core.List.{map, _++_};
 ghost use Prim.Native.Nat.{_+_, _≤_};
 ghost use lib.ListN.{length, take, drop};
 ghost use Rattle.bands.specs.Packed.{packed};
-ghost use Rattle.band_search.specs.Apart.{apart};
+ghost use Rattle.band_places.specs.Apart.{apart};
 ghost use Rattle.painting.specs.Painted.{plainPainted, lanePainted, chunkOver};
 ghost use Rattle.painting.specs.Contracts.{laneCount};
 ghost use Rattle.paint_banded.specs.Rules.{plainSample, laneChunk};
@@ -129,7 +129,7 @@ fn words4_searched(
     requires { ⌜ (p .count ≤ 64) × Searchable (now starts) (now ends) (p .count) ⌝ }
     ensures { λ d. ⌜ take 4 d ≡ laneChunk (packed (now (starts .entry)) (now (ends .entry)) (now (colors .entry)) (p .count)) p (take 4 v) ⌝ }
 {
-    let places = band_search::places_of(4, starts, p.count, v);
+    let places = band_places::places_of(4, starts, p.count, v);
     let unheld = [p.unmappable.nodata; 16];
     let held = band_search::colors_at(4, starts, ends, colors, places, v, unheld);
     let all = band_search::all_held(4, starts, ends, places, v);
@@ -151,7 +151,7 @@ fn words8_searched(
     requires { ⌜ (p .count ≤ 64) × Searchable (now starts) (now ends) (p .count) ⌝ }
     ensures { λ d. ⌜ take 8 d ≡ laneChunk (packed (now (starts .entry)) (now (ends .entry)) (now (colors .entry)) (p .count)) p (take 8 v) ⌝ }
 {
-    let places = band_search::places_of(8, starts, p.count, v);
+    let places = band_places::places_of(8, starts, p.count, v);
     let unheld = [p.unmappable.nodata; 16];
     let held = band_search::colors_at(8, starts, ends, colors, places, v, unheld);
     let all = band_search::all_held(8, starts, ends, places, v);
@@ -173,7 +173,7 @@ fn words16_searched(
     requires { ⌜ (p .count ≤ 64) × Searchable (now starts) (now ends) (p .count) ⌝ }
     ensures { λ d. ⌜ take 16 d ≡ laneChunk (packed (now (starts .entry)) (now (ends .entry)) (now (colors .entry)) (p .count)) p (take 16 v) ⌝ }
 {
-    let places = band_search::places_of(16, starts, p.count, v);
+    let places = band_places::places_of(16, starts, p.count, v);
     let unheld = [p.unmappable.nodata; 16];
     let held = band_search::colors_at(16, starts, ends, colors, places, v, unheld);
     let all = band_search::all_held(16, starts, ends, places, v);
@@ -294,7 +294,7 @@ pub fn paint(
     requires { ⌜ (p .count ≤ 64) × (length (now out) ≡ length (now src)) ⌝ }
     ensures { λ _. ⌜ now (out .exit) ≡ plainPainted (plainSample (packed (now (starts .entry)) (now (ends .entry)) (now (colors .entry)) (p .count)) p) (now (src .entry)) ⌝ }
 {
-    let search = band_search::apart(starts, ends, p.count);
+    let search = band_places::apart(starts, ends, p.count);
     let n = src.len();
     let mut base: usize = 0;
     while 16 <= n - base {
@@ -317,7 +317,7 @@ pub fn paint_simd(
     requires { ⌜ (p .count ≤ 64) × (laneCount l ≡ true) × (length (now out) ≡ length (now src)) ⌝ }
     ensures { λ _. ⌜ now (out .exit) ≡ lanePainted l (laneChunk (packed (now (starts .entry)) (now (ends .entry)) (now (colors .entry)) (p .count)) p) (plainSample (packed (now (starts .entry)) (now (ends .entry)) (now (colors .entry)) (p .count)) p) (now (src .entry)) ⌝ }
 {
-    let search = band_search::apart(starts, ends, p.count) & (0 < p.count);
+    let search = band_places::apart(starts, ends, p.count) & (0 < p.count);
     let n = src.len();
     let mut base: usize = 0;
     while l <= n - base {

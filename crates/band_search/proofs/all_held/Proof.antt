@@ -8,8 +8,8 @@ use lib.Ieee.{lt, le, nan}
 use lib.ListN.{getD}
 use Rattle.band_lanes.proofs.Chunk.{below-more}
 use Rattle.band_lanes.specs.Parts.{allBelow}
-use Rattle.band_search.proofs.Ascent.{and-and}
-use Rattle.band_search.specs.Place.{heldAt}
+use Rattle.band_places.proofs.Ascent.{and-and}
+use Rattle.band_places.specs.Place.{heldAt}
 use Rattle.band_search.proofs.all_held.Statement.{statement}
 use Rattle.band_search.proofs.all_held.Tie as tie
 

@@ -5,7 +5,7 @@ use native.Mathlib.Omega.{arith}
 use lib.ListN.{getD}
 use lib.Ieee.{nan}
 use Rattle.lists.proofs.Filling.{Filling, filling-start, filling-turn, filling-end}
-use Rattle.band_search.specs.Place.{colorAt}
+use Rattle.band_places.specs.Place.{colorAt}
 use Rattle.band_search.proofs.colors_at.Statement.{statement}
 use Rattle.band_search.proofs.colors_at.Tie as tie
 

@@ -14,7 +14,7 @@ use Rattle.painting.proofs.Refusals.{lane-sizes}
 use Rattle.painting.proofs.Steps.{InChunks, chunks-start, chunk-turn, chunks-end}
 use Rattle.painting.proofs.Masking.{length-masked}
 use Rattle.bands.specs.Packed.{packed}
-use Rattle.band_search.specs.Apart.{apart}
+use Rattle.band_places.specs.Apart.{apart}
 use Rattle.paint_banded.specs.Rules.{plainSample, laneChunk}
 use Rattle.paint_banded.specs.Search.{Searchable}
 use Rattle.paint_banded.proofs.paint_simd.Statement.{statement}

@@ -7,9 +7,9 @@ use native.Mathlib.Omega.{arith}
 use lib.ListN.{getD}
 use lib.Ieee.{nan, le}
 use Rattle.lists.proofs.Filling.{Filling, filling-start, filling-turn, filling-end}
-use Rattle.band_search.proofs.Counting.{flag-is, moved-fits}
-use Rattle.band_search.proofs.moved.Statement.{statement}
-use Rattle.band_search.proofs.moved.Tie as tie
+use Rattle.band_places.proofs.Counting.{flag-is, moved-fits}
+use Rattle.band_places.proofs.moved.Statement.{statement}
+use Rattle.band_places.proofs.moved.Tie as tie
 
 abbrev Inv-loop : tie.InvT-loop
 Inv-loop lanes start value places result₀ i₀ result i = Filling 0 (λ k. getD places k 0 + cond (le start (getD value k nan)) 1 0) 16 lanes i result

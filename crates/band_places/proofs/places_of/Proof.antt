@@ -3,10 +3,10 @@ use borrow.Author.Needs.{needs}
 use Prim.Native.Nat.{ℕ, _+_, _-_, _<_, min}
 use mathlib.Core.Path.{_≡_, subst}
 use native.Mathlib.Omega.{arith}
-use Rattle.band_search.proofs.Placing.{placed-start, placed-turn}
-use Rattle.band_search.specs.Place.{Placed}
-use Rattle.band_search.proofs.places_of.Statement.{statement}
-use Rattle.band_search.proofs.places_of.Tie as tie
+use Rattle.band_places.proofs.Placing.{placed-start, placed-turn}
+use Rattle.band_places.specs.Place.{Placed}
+use Rattle.band_places.proofs.places_of.Statement.{statement}
+use Rattle.band_places.proofs.places_of.Tie as tie
 
 abbrev Inv-loop : tie.InvT-loop
 Inv-loop lanes starts count value result₀ i₀ result i = (0 < i) × Placed lanes starts (min i count) value result

@@ -7,8 +7,8 @@ use native.Mathlib.Omega.{arith}
 use lib.Ieee.{Float, nan, le}
 use lib.ListN.{getD, replicate, getD-replicate}
 use Rattle.lists.specs.Lanes.{Lanes}
-use Rattle.band_search.specs.Place.{placeOf, Placed}
-use Rattle.band_search.proofs.Counting.{place-few, place-more, place-in-arrays}
+use Rattle.band_places.specs.Place.{placeOf, Placed}
+use Rattle.band_places.proofs.Counting.{place-few, place-more, place-in-arrays}
 
 module _ (lanes : ℕ) (starts : List Float) (value : List Float) where
   placed : (count : ℕ) (places : List ℕ) → count ≤ 64 → Lanes 0 lanes places (λ k. placeOf starts count (getD value k nan)) → Placed lanes starts count value places

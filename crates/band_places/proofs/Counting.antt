@@ -14,9 +14,9 @@ use lib.ListN.{getD}
 use mir.Val.{boolByte}
 use Rattle.lists.proofs.Numbers.{lt-or-le}
 use Rattle.floats.proofs.Order.{le-le, lt-le, lt-not-le}
-use Rattle.band_search.specs.Apart.{apart}
-use Rattle.band_search.specs.Place.{placeOf, heldAt}
-use Rattle.band_search.proofs.Ascent.{later-clears}
+use Rattle.band_places.specs.Apart.{apart}
+use Rattle.band_places.specs.Place.{placeOf, heldAt}
+use Rattle.band_places.proofs.Ascent.{later-clears}
 
 at-most-one : (t : Bool) → cond t 1 0 ≤ 1
 at-most-one true = omega arith

@@ -12,7 +12,7 @@ use lib.Ieee.{Float, nan, le}
 use lib.Ieee.Fits.{and-l, and-r}
 use lib.ListN.{getD}
 use Rattle.floats.proofs.Order.{le-le}
-use Rattle.band_search.specs.Apart.{apart}
+use Rattle.band_places.specs.Apart.{apart}
 
 pub and-and : (a b c : Bool) → ((a && b) && c) ≡ (a && (b && c))
 and-and true b c = refl

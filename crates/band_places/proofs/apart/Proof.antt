@@ -6,10 +6,10 @@ use mathlib.Core.Path.{_≡_, sym, ap, _∙_}
 use native.Mathlib.Omega.{arith}
 use lib.Ieee.{le, nan}
 use lib.ListN.{getD}
-use Rattle.band_search.specs.Apart.{apart}
-use Rattle.band_search.proofs.Ascent.{one-more, few}
-use Rattle.band_search.proofs.apart.Statement.{statement}
-use Rattle.band_search.proofs.apart.Tie as tie
+use Rattle.band_places.specs.Apart.{apart}
+use Rattle.band_places.proofs.Ascent.{one-more, few}
+use Rattle.band_places.proofs.apart.Statement.{statement}
+use Rattle.band_places.proofs.apart.Tie as tie
 
 abbrev Inv-loop : tie.InvT-loop
 Inv-loop starts ends count result₀ i₀ result i = (0 < i) × (result ≡ apart starts ends (min i count))
