@@ -1,8 +1,6 @@
 // Painting f32 samples by a banded legend, plainly and in lanes (docs/RULES.md, "Painting"). The refusals are the caller's, who has
 // seen to it that at most 64 bands are counted. Bands that are apart are searched by place, others scanned: asked once a raster.
-use band_lanes::Scan;
-use colormapper::Exclusions;
-use colormapper::UnmappableColors;
+use banded_words::BandedPaint;
 ghost use mathlib.Core.Path.{_≡_};
 ghost use mathlib.Core.Bool.{true};
 ghost use mathlib.Core.List.{map, _++_};
@@ -12,180 +10,9 @@ ghost use Rattle.bands.specs.Packed.{packed};
 ghost use Rattle.band_places.specs.Apart.{apart};
 ghost use Rattle.painting.specs.Painted.{plainPainted, lanePainted, chunkOver};
 ghost use Rattle.painting.specs.Contracts.{laneCount};
-ghost use Rattle.paint_banded.specs.Rules.{plainSample, laneChunk};
-ghost use Rattle.paint_banded.specs.Search.{Searchable};
+ghost use Rattle.banded_words.specs.Rules.{plainSample, laneChunk};
 
-// What a banded legend is painted by, beside its bands.
-pub struct BandedPaint {
-    pub count: usize,
-    pub unmappable: UnmappableColors,
-    pub exclusions: Exclusions,
-}
-
-// ---- sixteen words by the plain rule: of all bands, or of the one at each sample's place
-
-fn words_plain(
-    starts: &[f32; 64],
-    ends: &[f32; 64],
-    colors: &[u32; 64],
-    p: BandedPaint,
-    v: [f32; 16],
-) -> [u32; 16]
-    requires { ⌜ p .count ≤ 64 ⌝ }
-    ensures { λ d. ⌜ take 16 d ≡ map (plainSample (packed (now (starts .entry)) (now (ends .entry)) (now (colors .entry)) (p .count)) p) (take 16 v) ⌝ }
-{
-    let c = bands::colors_for_numeric_values(starts, ends, colors, p.count, p.unmappable, v);
-    p.exclusions.masked_simd(16, v, p.unmappable.nodata, c)
-}
-
-fn words_searched(
-    starts: &[f32; 64],
-    ends: &[f32; 64],
-    colors: &[u32; 64],
-    p: BandedPaint,
-    v: [f32; 16],
-) -> [u32; 16]
-    requires { ⌜ (p .count ≤ 64) × (apart (now starts) (now ends) (p .count) ≡ true) ⌝ }
-    ensures { λ d. ⌜ take 16 d ≡ map (plainSample (packed (now (starts .entry)) (now (ends .entry)) (now (colors .entry)) (p .count)) p) (take 16 v) ⌝ }
-{
-    let c = band_search::colors_for_numeric_values(starts, ends, colors, p.count, p.unmappable, v);
-    p.exclusions.masked_simd(16, v, p.unmappable.nodata, c)
-}
-
-// By a search where it is asked for: only of bands that are apart.
-fn words(
-    starts: &[f32; 64],
-    ends: &[f32; 64],
-    colors: &[u32; 64],
-    p: BandedPaint,
-    search: bool,
-    v: [f32; 16],
-) -> [u32; 16]
-    requires { ⌜ (p .count ≤ 64) × (search ≡ true → apart (now starts) (now ends) (p .count) ≡ true) ⌝ }
-    ensures { λ d. ⌜ take 16 d ≡ map (plainSample (packed (now (starts .entry)) (now (ends .entry)) (now (colors .entry)) (p .count)) p) (take 16 v) ⌝ }
-{
-    if search {
-        return words_searched(starts, ends, colors, p, v);
-    }
-    words_plain(starts, ends, colors, p, v)
-}
-
-// ---- the words of a chunk by a scan, at each lane count, in straight lines over the literal
-
-fn words4(
-    starts: &[f32; 64],
-    ends: &[f32; 64],
-    colors: &[u32; 64],
-    p: BandedPaint,
-    v: [f32; 16],
-) -> [u32; 16]
-    requires { ⌜ p .count ≤ 64 ⌝ }
-    ensures { λ d. ⌜ take 4 d ≡ laneChunk (packed (now (starts .entry)) (now (ends .entry)) (now (colors .entry)) (p .count)) p (take 4 v) ⌝ }
-{
-    let scan = band_lanes::scanned(4, starts, ends, colors, p.count, p.unmappable.nodata, v);
-    let c = band_lanes::settled(4, starts, ends, colors, p.count, p.unmappable, v, scan);
-    p.exclusions.masked_simd(4, v, p.unmappable.nodata, c)
-}
-
-fn words8(
-    starts: &[f32; 64],
-    ends: &[f32; 64],
-    colors: &[u32; 64],
-    p: BandedPaint,
-    v: [f32; 16],
-) -> [u32; 16]
-    requires { ⌜ p .count ≤ 64 ⌝ }
-    ensures { λ d. ⌜ take 8 d ≡ laneChunk (packed (now (starts .entry)) (now (ends .entry)) (now (colors .entry)) (p .count)) p (take 8 v) ⌝ }
-{
-    let scan = band_lanes::scanned(8, starts, ends, colors, p.count, p.unmappable.nodata, v);
-    let c = band_lanes::settled(8, starts, ends, colors, p.count, p.unmappable, v, scan);
-    p.exclusions.masked_simd(8, v, p.unmappable.nodata, c)
-}
-
-fn words16(
-    starts: &[f32; 64],
-    ends: &[f32; 64],
-    colors: &[u32; 64],
-    p: BandedPaint,
-    v: [f32; 16],
-) -> [u32; 16]
-    requires { ⌜ p .count ≤ 64 ⌝ }
-    ensures { λ d. ⌜ take 16 d ≡ laneChunk (packed (now (starts .entry)) (now (ends .entry)) (now (colors .entry)) (p .count)) p (take 16 v) ⌝ }
-{
-    let scan = band_lanes::scanned(16, starts, ends, colors, p.count, p.unmappable.nodata, v);
-    let c = band_lanes::settled(16, starts, ends, colors, p.count, p.unmappable, v, scan);
-    p.exclusions.masked_simd(16, v, p.unmappable.nodata, c)
-}
-
-// ---- the same by a search: the scan is what stands at the lanes' places
-
-fn words4_searched(
-    starts: &[f32; 64],
-    ends: &[f32; 64],
-    colors: &[u32; 64],
-    p: BandedPaint,
-    v: [f32; 16],
-) -> [u32; 16]
-    requires { ⌜ (p .count ≤ 64) × Searchable (now starts) (now ends) (p .count) ⌝ }
-    ensures { λ d. ⌜ take 4 d ≡ laneChunk (packed (now (starts .entry)) (now (ends .entry)) (now (colors .entry)) (p .count)) p (take 4 v) ⌝ }
-{
-    let places = band_places::places_of(4, starts, p.count, v);
-    let unheld = [p.unmappable.nodata; 16];
-    let held = band_search::colors_at(4, starts, ends, colors, places, v, unheld);
-    let all = band_search::all_held(4, starts, ends, places, v);
-    let scan = Scan {
-        colors: held,
-        finished: all,
-    };
-    let c = band_lanes::settled(4, starts, ends, colors, p.count, p.unmappable, v, scan);
-    p.exclusions.masked_simd(4, v, p.unmappable.nodata, c)
-}
-
-fn words8_searched(
-    starts: &[f32; 64],
-    ends: &[f32; 64],
-    colors: &[u32; 64],
-    p: BandedPaint,
-    v: [f32; 16],
-) -> [u32; 16]
-    requires { ⌜ (p .count ≤ 64) × Searchable (now starts) (now ends) (p .count) ⌝ }
-    ensures { λ d. ⌜ take 8 d ≡ laneChunk (packed (now (starts .entry)) (now (ends .entry)) (now (colors .entry)) (p .count)) p (take 8 v) ⌝ }
-{
-    let places = band_places::places_of(8, starts, p.count, v);
-    let unheld = [p.unmappable.nodata; 16];
-    let held = band_search::colors_at(8, starts, ends, colors, places, v, unheld);
-    let all = band_search::all_held(8, starts, ends, places, v);
-    let scan = Scan {
-        colors: held,
-        finished: all,
-    };
-    let c = band_lanes::settled(8, starts, ends, colors, p.count, p.unmappable, v, scan);
-    p.exclusions.masked_simd(8, v, p.unmappable.nodata, c)
-}
-
-fn words16_searched(
-    starts: &[f32; 64],
-    ends: &[f32; 64],
-    colors: &[u32; 64],
-    p: BandedPaint,
-    v: [f32; 16],
-) -> [u32; 16]
-    requires { ⌜ (p .count ≤ 64) × Searchable (now starts) (now ends) (p .count) ⌝ }
-    ensures { λ d. ⌜ take 16 d ≡ laneChunk (packed (now (starts .entry)) (now (ends .entry)) (now (colors .entry)) (p .count)) p (take 16 v) ⌝ }
-{
-    let places = band_places::places_of(16, starts, p.count, v);
-    let unheld = [p.unmappable.nodata; 16];
-    let held = band_search::colors_at(16, starts, ends, colors, places, v, unheld);
-    let all = band_search::all_held(16, starts, ends, places, v);
-    let scan = Scan {
-        colors: held,
-        finished: all,
-    };
-    let c = band_lanes::settled(16, starts, ends, colors, p.count, p.unmappable, v, scan);
-    p.exclusions.masked_simd(16, v, p.unmappable.nodata, c)
-}
-
-// ---- one chunk of a raster
+// ---- one block of a raster
 
 fn block(
     starts: &[f32; 64],
@@ -201,61 +28,12 @@ fn block(
     ensures { λ _. ⌜ now (out .exit) ≡ chunkOver (map (plainSample (packed (now (starts .entry)) (now (ends .entry)) (now (colors .entry)) (p .count)) p)) (now (src .entry)) (now (out .entry)) base 16 ⌝ }
 {
     let v = painting::load(16, src, base);
-    painting::store(16, words(starts, ends, colors, p, search, v), base, out);
-}
-
-fn chunk(
-    starts: &[f32; 64],
-    ends: &[f32; 64],
-    colors: &[u32; 64],
-    p: BandedPaint,
-    l: usize,
-    src: &[f32],
-    base: usize,
-    out: &mut [u32],
-)
-    requires { ⌜ (p .count ≤ 64) × (laneCount l ≡ true) × (base + l ≤ length (now src)) × (base + l ≤ length (now out)) ⌝ }
-    ensures { λ _. ⌜ now (out .exit) ≡ chunkOver (laneChunk (packed (now (starts .entry)) (now (ends .entry)) (now (colors .entry)) (p .count)) p) (now (src .entry)) (now (out .entry)) base l ⌝ }
-{
-    if l == 4 {
-        let v = painting::load(4, src, base);
-        painting::store(4, words4(starts, ends, colors, p, v), base, out);
-        return;
-    }
-    if l == 8 {
-        let v = painting::load(8, src, base);
-        painting::store(8, words8(starts, ends, colors, p, v), base, out);
-        return;
-    }
-    let v = painting::load(16, src, base);
-    painting::store(16, words16(starts, ends, colors, p, v), base, out);
-}
-
-fn chunk_searched(
-    starts: &[f32; 64],
-    ends: &[f32; 64],
-    colors: &[u32; 64],
-    p: BandedPaint,
-    l: usize,
-    src: &[f32],
-    base: usize,
-    out: &mut [u32],
-)
-    requires { ⌜ (p .count ≤ 64) × Searchable (now starts) (now ends) (p .count) × (laneCount l ≡ true) × (base + l ≤ length (now src)) × (base + l ≤ length (now out)) ⌝ }
-    ensures { λ _. ⌜ now (out .exit) ≡ chunkOver (laneChunk (packed (now (starts .entry)) (now (ends .entry)) (now (colors .entry)) (p .count)) p) (now (src .entry)) (now (out .entry)) base l ⌝ }
-{
-    if l == 4 {
-        let v = painting::load(4, src, base);
-        painting::store(4, words4_searched(starts, ends, colors, p, v), base, out);
-        return;
-    }
-    if l == 8 {
-        let v = painting::load(8, src, base);
-        painting::store(8, words8_searched(starts, ends, colors, p, v), base, out);
-        return;
-    }
-    let v = painting::load(16, src, base);
-    painting::store(16, words16_searched(starts, ends, colors, p, v), base, out);
+    painting::store(
+        16,
+        banded_words::words(starts, ends, colors, p, search, v),
+        base,
+        out,
+    );
 }
 
 // The samples from base on, at most sixteen: coloured at once among sixteen lanes, whatever the others hold.
@@ -277,7 +55,12 @@ fn rest(
         return;
     }
     let v = painting::load(m, src, base);
-    painting::store(m, words(starts, ends, colors, p, search, v), base, out);
+    painting::store(
+        m,
+        banded_words::words(starts, ends, colors, p, search, v),
+        base,
+        out,
+    );
 }
 
 // ---- a whole raster, with an output of its length
@@ -322,9 +105,9 @@ pub fn paint_simd(
     let mut base: usize = 0;
     while l <= n - base {
         if search {
-            chunk_searched(starts, ends, colors, p, l, src, base, out);
+            banded_words::chunk_searched(starts, ends, colors, p, l, src, base, out);
         } else {
-            chunk(starts, ends, colors, p, l, src, base, out);
+            banded_words::chunk(starts, ends, colors, p, l, src, base, out);
         }
         base += l;
     }

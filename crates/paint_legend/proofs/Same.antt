@@ -28,8 +28,8 @@ use Rattle.categories.specs.Rule as categories
 use Rattle.categories.proofs.Rules.{with-table, without-table}
 use Rattle.catgegoric.specs.declared.CategoricNumeric.{CategoricNumeric}
 use Rattle.paint_linear.specs.Rules as linearly
-use Rattle.paint_banded.specs.declared.BandedPaint.{BandedPaint}
-use Rattle.paint_banded.specs.Rules as bandedly
+use Rattle.banded_words.specs.declared.BandedPaint.{BandedPaint}
+use Rattle.banded_words.specs.Rules as bandedly
 use Rattle.paint_by_table.specs.Rules.{tableSample, tableChunk}
 use Rattle.paint_categoric.specs.Rules.{keySample}
 use Rattle.legend.specs.Painters.{linearPainter, bandsPainter, bandedPainter, categoricPainter}

@@ -8,7 +8,7 @@ use Rattle.banded.specs.declared.Banded.{Banded}
 use Rattle.banded.specs.Record.{counted}
 use Rattle.banded.specs.Unmappable.{bandedUnmappable}
 use Rattle.paint_linear.specs.declared.LinearPaint.{LinearPaint}
-use Rattle.paint_banded.specs.declared.BandedPaint.{BandedPaint}
+use Rattle.banded_words.specs.declared.BandedPaint.{BandedPaint}
 use Rattle.paint_by_table.specs.declared.CategoricPaint.{CategoricPaint}
 
 abbrev pub linearPaint : Linear → MappingConfig → Nodata → LinearPaint

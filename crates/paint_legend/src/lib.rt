@@ -1,11 +1,11 @@
 // Painting f32 samples by a legend of any kind (docs/RULES.md, "Painting"), plainly with 0 lanes, else in lanes. The legend's arrays
 // are lent. The refusals are the caller's.
 use banded::Banded;
+use banded_words::BandedPaint;
 use cast::Nodata;
 use colormapper::MappingConfig;
 use legend::LegendKind;
 use legend_head::Head;
-use paint_banded::BandedPaint;
 use paint_by_table::CategoricPaint;
 use paint_linear::LinearPaint;
 ghost use mathlib.Core.Path.{_≡_};

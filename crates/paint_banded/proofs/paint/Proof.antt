@@ -8,7 +8,7 @@ use Rattle.painting.proofs.Steps.{InChunks, chunks-start, chunk-turn, chunks-en
 use Rattle.painting.proofs.Splitting.{plain-in-blocks}
 use mathlib.Core.List.{map}
 use Rattle.bands.specs.Packed.{packed}
-use Rattle.paint_banded.specs.Rules.{plainSample}
+use Rattle.banded_words.specs.Rules.{plainSample}
 use Rattle.paint_banded.proofs.paint.Statement.{statement}
 use Rattle.paint_banded.proofs.paint.Tie as tie
 

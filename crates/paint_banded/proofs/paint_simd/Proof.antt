@@ -15,8 +15,8 @@ use Rattle.painting.proofs.Steps.{InChunks, chunks-start, chunk-turn, chunks-en
 use Rattle.painting.proofs.Masking.{length-masked}
 use Rattle.bands.specs.Packed.{packed}
 use Rattle.band_places.specs.Apart.{apart}
-use Rattle.paint_banded.specs.Rules.{plainSample, laneChunk}
-use Rattle.paint_banded.specs.Search.{Searchable}
+use Rattle.banded_words.specs.Rules.{plainSample, laneChunk}
+use Rattle.banded_words.specs.Search.{Searchable}
 use Rattle.paint_banded.proofs.paint_simd.Statement.{statement}
 use Rattle.paint_banded.proofs.paint_simd.Tie as tie
 

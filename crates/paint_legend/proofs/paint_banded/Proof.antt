@@ -4,7 +4,7 @@ use native.Mathlib.Omega.{arith}
 use Prim.Native.Nat.{_≤_}
 use lib.ListN.{length, length-map}
 use Rattle.bands.specs.declared.LegendBand.{LegendBand}
-use Rattle.paint_banded.specs.declared.BandedPaint.{BandedPaint}
+use Rattle.banded_words.specs.declared.BandedPaint.{BandedPaint}
 use Rattle.legend.specs.Painters.{bandedPainter}
 use Rattle.paint_legend.proofs.Lanes.{lanes-count, painted-plainly, painted-in-lanes}
 use Rattle.paint_legend.proofs.Same.{banded-simd, bands-sample, bands-chunk}

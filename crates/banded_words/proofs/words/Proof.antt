@@ -1,7 +1,7 @@
 -- `words` meets its contract. Assumes nothing.
 use borrow.Author.Needs.{needs}
-use Rattle.paint_banded.proofs.words.Statement.{statement}
-use Rattle.paint_banded.proofs.words.Tie as tie
+use Rattle.banded_words.proofs.words.Statement.{statement}
+use Rattle.banded_words.proofs.words.Tie as tie
 
 words-searched-requires : tie.Need-words-searched-requires
 words-searched-requires c κs = (search needs, c .before .pre .1 (c .if1 .taken))

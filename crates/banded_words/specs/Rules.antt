@@ -7,7 +7,7 @@ use Rattle.painting.specs.Masked.{masked, maskedColor}
 use Rattle.bands.specs.declared.LegendBand.{LegendBand}
 use Rattle.bands.specs.PlainRule.{plainColor}
 use Rattle.band_lanes.specs.LaneRule.{laneColors}
-use Rattle.paint_banded.specs.declared.BandedPaint.{BandedPaint}
+use Rattle.banded_words.specs.declared.BandedPaint.{BandedPaint}
 
 abbrev pub plainSample : List LegendBand → BandedPaint → Float → ℕ
 plainSample bands p = maskedColor (excluded (p .exclusions)) (p .unmappable .nodata) (plainColor bands (p .unmappable))

@@ -13,8 +13,8 @@ use Rattle.painting.proofs.Masking.{lanes-masked}
 use Rattle.bands.specs.declared.LegendBand.{LegendBand}
 use Rattle.bands.specs.PlainRule.{plainColor}
 use Rattle.band_lanes.specs.LaneRule.{laneColors}
-use Rattle.paint_banded.specs.declared.BandedPaint.{BandedPaint}
-use Rattle.paint_banded.specs.Rules.{plainSample, laneChunk}
+use Rattle.banded_words.specs.declared.BandedPaint.{BandedPaint}
+use Rattle.banded_words.specs.Rules.{plainSample, laneChunk}
 
 module _ (l : ℕ) (bands : List LegendBand) (p : BandedPaint) (v : List Float) (colors d : List ℕ) where
   -- lane by lane, nodata where the sample is unmappable

@@ -1,8 +1,8 @@
 -- `words_plain` meets its contract. Assumes nothing.
 use borrow.Author.Needs.{needs}
-use Rattle.paint_banded.proofs.MaskedWords.{plain-words}
-use Rattle.paint_banded.proofs.words_plain.Statement.{statement}
-use Rattle.paint_banded.proofs.words_plain.Tie as tie
+use Rattle.banded_words.proofs.MaskedWords.{plain-words}
+use Rattle.banded_words.proofs.words_plain.Statement.{statement}
+use Rattle.banded_words.proofs.words_plain.Tie as tie
 
 colors-for-numeric-values-requires : tie.Need-colors-for-numeric-values-requires
 colors-for-numeric-values-requires c κs = search needs

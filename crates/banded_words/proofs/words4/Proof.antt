@@ -1,8 +1,8 @@
 -- `words4` meets its contract. Assumes nothing.
 use borrow.Author.Needs.{needs}
-use Rattle.paint_banded.proofs.MaskedWords.{lane-words}
-use Rattle.paint_banded.proofs.words4.Statement.{statement}
-use Rattle.paint_banded.proofs.words4.Tie as tie
+use Rattle.banded_words.proofs.MaskedWords.{lane-words}
+use Rattle.banded_words.proofs.words4.Statement.{statement}
+use Rattle.banded_words.proofs.words4.Tie as tie
 
 scanned-requires : tie.Need-scanned-requires
 scanned-requires c κs = search needs

@@ -3,8 +3,8 @@ use native.Mathlib.Omega.{arith}
 use Rattle.painting.proofs.Whole.{chunk-is}
 use Rattle.painting.proofs.Refusals.{lane-sixteen}
 use borrow.Author.Needs.{needs}
-use Rattle.paint_banded.proofs.chunk_searched.Statement.{statement}
-use Rattle.paint_banded.proofs.chunk_searched.Tie as tie
+use Rattle.banded_words.proofs.chunk_searched.Statement.{statement}
+use Rattle.banded_words.proofs.chunk_searched.Tie as tie
 
 load-requires : tie.Need-load-requires
 load-requires c κs = search needs

@@ -2,9 +2,9 @@
 use borrow.Author.Needs.{needs}
 use native.Mathlib.Omega.{arith}
 use Rattle.band_search.proofs.ScanAtPlaces.{scan-at-places}
-use Rattle.paint_banded.proofs.MaskedWords.{lane-words}
-use Rattle.paint_banded.proofs.words16_searched.Statement.{statement}
-use Rattle.paint_banded.proofs.words16_searched.Tie as tie
+use Rattle.banded_words.proofs.MaskedWords.{lane-words}
+use Rattle.banded_words.proofs.words16_searched.Statement.{statement}
+use Rattle.banded_words.proofs.words16_searched.Tie as tie
 
 places-of-requires : tie.Need-places-of-requires
 places-of-requires c κs = search needs
