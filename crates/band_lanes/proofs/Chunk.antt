@@ -11,7 +11,8 @@ use Rattle.lists.specs.Lanes.{Lanes}
 use Rattle.lists.specs.Tabulate.{tabulate}
 use Rattle.bands.specs.declared.LegendBand.{LegendBand}
 use Rattle.bands.specs.Band.{holds}
-use Rattle.band_lanes.specs.LaneRule.{Lane, started, over, allInside, scanned}
+use Rattle.lane_edges.specs.Edges.{Lane}
+use Rattle.band_lanes.specs.LaneRule.{started, over, allInside, scanned}
 use Rattle.bands.specs.Packed.{bandAt, packed}
 use Rattle.band_lanes.specs.Parts.{allBelow, Sweep, swept, Scanned}
 use Rattle.band_lanes.proofs.Entries.{same-rule, front, map-rule, map-same}

@@ -9,7 +9,8 @@ use Rattle.colormapper.specs.declared.UnmappableColors.{UnmappableColors}
 use Rattle.bands.specs.declared.LegendBand.{LegendBand}
 use Rattle.bands.specs.Packed.{bandAt, packed}
 use Rattle.bands.proofs.Forms.{last-is}
-use Rattle.band_lanes.specs.LaneRule.{started, edged, scanned, laneColors}
+use Rattle.lane_edges.specs.Edges.{edged}
+use Rattle.band_lanes.specs.LaneRule.{started, scanned, laneColors}
 
 module _ (starts ends : List Float) (colors : List ℕ) where
   abbrev f : ℕ → LegendBand

@@ -13,7 +13,8 @@ use Rattle.colormapper.specs.declared.UnmappableColors.{UnmappableColors}
 use Rattle.bands.specs.declared.LegendBand.{LegendBand}
 use Rattle.bands.specs.Band.{holds, lastOf}
 use Rattle.bands.specs.PlainRule.{plainRule, ruleColor, plainColor}
-use Rattle.band_lanes.specs.LaneRule.{Lane, started, over, allInside, edged, scanned, laneColors}
+use Rattle.lane_edges.specs.Edges.{Lane, edged}
+use Rattle.band_lanes.specs.LaneRule.{started, over, allInside, scanned, laneColors}
 use Rattle.band_lanes.specs.Sound.{Sound}
 use Rattle.band_lanes.proofs.Entries.{map-same, map-at}
 use Rattle.band_lanes.proofs.SampleLaw.{laneIn, held, edges-law, early-law}

@@ -16,7 +16,7 @@ use Rattle.colormapper.specs.Tolerance.{E, within}
 use Rattle.bands.specs.declared.LegendBand.{LegendBand}
 use Rattle.bands.specs.Band.{holds, lastOf}
 use Rattle.bands.specs.PlainRule.{plainColor}
-use Rattle.band_lanes.specs.LaneRule.{edged}
+use Rattle.lane_edges.specs.Edges.{edged}
 use Rattle.bands.specs.Parts.{firstColor, edgeColor}
 use Rattle.band_lanes.specs.Sound.{finiteBand, startsBelowEnd, clears, wideBand, eachBand, eachAfter, eachNext, firstAndLast, Sound}
 use Rattle.bands.proofs.Forms.{edge-chain, plain-form}

@@ -15,9 +15,10 @@ use Rattle.lists.proofs.Tabulated.{tabulate-own}
 use Rattle.colormapper.specs.declared.UnmappableColors.{UnmappableColors}
 use Rattle.bands.specs.declared.LegendBand.{LegendBand}
 use Rattle.band_lanes.specs.declared.Scan.{Scan}
-use Rattle.band_lanes.specs.LaneRule.{Lane, started, edged, laneColors}
+use Rattle.lane_edges.specs.Edges.{Lane, edged, laneEdgeColor}
+use Rattle.band_lanes.specs.LaneRule.{started, laneColors}
 use Rattle.bands.specs.Packed.{bandAt, packed}
-use Rattle.band_lanes.specs.Parts.{laneEdgeColor, Sweep, swept, Scanned}
+use Rattle.band_lanes.specs.Parts.{Sweep, swept, Scanned}
 use Rattle.bands.proofs.Forms.{drop-end}
 use Rattle.band_lanes.proofs.LaneForms.{lane-none, lane-packed}
 use Rattle.band_lanes.proofs.Entries.{front, map-rule}

@@ -5,14 +5,10 @@ use mathlib.Core.Path.{_≡_}
 use mathlib.Core.List.{List, [], _∷_, map}
 use lib.Ieee.{Float}
 use lib.ListN.{take}
-use Rattle.colormapper.specs.declared.UnmappableColors.{UnmappableColors}
 use Rattle.bands.specs.declared.LegendBand.{LegendBand}
 use Rattle.band_lanes.specs.declared.Scan.{Scan}
-use Rattle.band_lanes.specs.LaneRule.{Lane, started, over, allInside, edged}
-
--- the colour of a lane whose chunk no band finished, by its value and its colour so far
-abbrev pub laneEdgeColor : (first last : LegendBand) (u : UnmappableColors) (v : Float) (color : ℕ) → ℕ
-laneEdgeColor first last u v color = edged u first last (record { value = v; inside = false; color = color })
+use Rattle.lane_edges.specs.Edges.{Lane}
+use Rattle.band_lanes.specs.LaneRule.{started, over, allInside}
 
 -- each number below n passes a test
 unfoldable pub allBelow : ℕ → (ℕ → Bool) → Bool

@@ -11,7 +11,7 @@ ghost use Rattle.lists.specs.Lanes.{Lanes};
 ghost use Rattle.bands.specs.Band.{holds};
 ghost use Rattle.bands.specs.Packed.{packed};
 ghost use Rattle.band_lanes.specs.LaneRule.{laneColors};
-ghost use Rattle.band_lanes.specs.Parts.{laneEdgeColor, allBelow, Scanned};
+ghost use Rattle.band_lanes.specs.Parts.{allBelow, Scanned};
 
 // A chunk after the bands: its colours so far, and whether each lane lies in some band.
 pub struct Scan {
@@ -131,41 +131,5 @@ pub fn settled(
     }
     let first = bands::band_at(starts, ends, colors, 0);
     let last = bands::band_at(starts, ends, colors, count - 1);
-    lane_edge_colors(lanes, first, last, u, value, result)
-}
-
-// The colour of a lane whose chunk no band finished.
-fn lane_edge_color(
-    first: LegendBand,
-    last: LegendBand,
-    u: UnmappableColors,
-    value: f32,
-    color: u32,
-) -> u32
-    ensures { λ r. ⌜ r ≡ laneEdgeColor first last u value color ⌝ }
-{
-    let x = bands::pick(value < first.start, u.low, color);
-    let y = bands::pick(value > last.end, u.high, x);
-    let z = bands::pick(bands::is_within(first.start, value), first.color, y);
-    bands::pick(bands::is_within(last.end, value), last.color, z)
-}
-
-fn lane_edge_colors(
-    lanes: usize,
-    first: LegendBand,
-    last: LegendBand,
-    u: UnmappableColors,
-    value: [f32; 16],
-    color: [u32; 16],
-) -> [u32; 16]
-    requires { ⌜ lanes ≤ 16 ⌝ }
-    ensures { λ r. ⌜ Lanes 0 lanes r (λ k. laneEdgeColor first last u (getD value k nan) (getD color k 0)) ⌝ }
-{
-    let mut result = [0u32; 16];
-    let mut i: usize = 0;
-    while i < lanes {
-        result[i] = lane_edge_color(first, last, u, value[i], color[i]);
-        i += 1;
-    }
-    result
+    lane_edges::lane_edge_colors(lanes, first, last, u, value, result)
 }

@@ -16,7 +16,8 @@ use Rattle.lists.specs.Lanes.{Lanes}
 use Rattle.lists.specs.Tabulate.{tabulate}
 use Rattle.lists.proofs.Numbers.{lt-or-le}
 use Rattle.bands.specs.declared.LegendBand.{LegendBand}
-use Rattle.band_lanes.specs.LaneRule.{Lane, started, over, allInside}
+use Rattle.lane_edges.specs.Edges.{Lane}
+use Rattle.band_lanes.specs.LaneRule.{started, over, allInside}
 use Rattle.bands.specs.Packed.{bandAt, packed}
 use Rattle.band_lanes.specs.Parts.{allBelow, Sweep, swept, Scanned}
 use Rattle.band_lanes.proofs.Entries.{same-rule, front, map-rule}

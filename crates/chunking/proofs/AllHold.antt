@@ -4,7 +4,8 @@ use lib.Ieee.{add, sub, lt, le, ofBits, isNan}
 use lib.Ieee.Scale.{finite}
 use Rattle.bands.specs.Band.{lastOf}
 use Rattle.bands.specs.PlainRule.{firstBand, edges, plainRule, bandColor, ruleColor}
-use Rattle.band_lanes.specs.LaneRule.{edged, scanned, laneColors}
+use Rattle.lane_edges.specs.Edges.{edged}
+use Rattle.band_lanes.specs.LaneRule.{scanned, laneColors}
 use Rattle.band_lanes.specs.Sound.{eachBand, eachAfter, eachNext, firstAndLast}
 use Rattle.chunking.specs.Cases.{holds, allHold, cases}
 

@@ -14,7 +14,8 @@ use Rattle.colormapper.specs.Unmappable.{unmappable}
 use Rattle.linear_rule.specs.Rule as linear
 use Rattle.bands.specs.Band.{lastOf}
 use Rattle.bands.specs.PlainRule.{firstBand, edges, plainRule, bandColor, ruleColor}
-use Rattle.band_lanes.specs.LaneRule.{edged, scanned, laneColors}
+use Rattle.lane_edges.specs.Edges.{edged}
+use Rattle.band_lanes.specs.LaneRule.{scanned, laneColors}
 use Rattle.band_lists.specs.EqualBands.{bandStep, bandStart, equalBands, equalRefusal}
 use Rattle.banded.specs.Record.{bandedOf, beside}
 use Rattle.banded.specs.EqualBands.{withEqualBands}

@@ -5,9 +5,9 @@ use lib.ListN.{getD}
 use lib.Ieee.{nan}
 use borrow.Author.Needs.{needs}
 use Rattle.lists.proofs.Filling.{Filling, filling-start, filling-turn, filling-end}
-use Rattle.band_lanes.specs.Parts.{laneEdgeColor}
-use Rattle.band_lanes.proofs.lane_edge_colors.Statement.{statement}
-use Rattle.band_lanes.proofs.lane_edge_colors.Tie as tie
+use Rattle.lane_edges.specs.Edges.{laneEdgeColor}
+use Rattle.lane_edges.proofs.lane_edge_colors.Statement.{statement}
+use Rattle.lane_edges.proofs.lane_edge_colors.Tie as tie
 
 abbrev Inv-loop : tie.InvT-loop
 Inv-loop lanes first last u value color result₀ i₀ result i = Filling 0 (λ k. laneEdgeColor first last u (getD value k nan) (getD color k 0)) 16 lanes i result

@@ -1,8 +1,8 @@
 -- `lane_edge_color` meets its contract: its selects are the lane rule's edges. Assumes nothing.
 use borrow.Author.Needs.{needs}
-use Rattle.band_lanes.specs.LaneRule.{edged}
-use Rattle.band_lanes.proofs.lane_edge_color.Statement.{statement}
-use Rattle.band_lanes.proofs.lane_edge_color.Tie as tie
+use Rattle.lane_edges.specs.Edges.{edged}
+use Rattle.lane_edges.proofs.lane_edge_color.Statement.{statement}
+use Rattle.lane_edges.proofs.lane_edge_color.Tie as tie
 
 pick-requires : tie.Need-pick-requires
 pick-requires c κs = search needs
