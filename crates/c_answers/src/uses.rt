@@ -1,9 +1,9 @@
 // What a legend is used for: the colour of a sample, the whole range of its values, the list of its colours.
 use crate::colors::LegendColor;
 use apply::ColorList;
+use c_settings::forms::Form;
 use c_types::answer;
 use c_types::answer::LegendAnswer;
-use c_settings::forms::Form;
 use pixel_color::PixelColor;
 use refusal::Answer;
 use refusal::Index;

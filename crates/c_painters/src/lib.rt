@@ -2,10 +2,10 @@
 use banded::Banded;
 use c_records::head;
 use c_records::head::LegendHead;
-use c_types::answer;
-use c_types::answer::LegendAnswer;
 use c_settings::forms;
 use c_settings::forms::Form;
+use c_types::answer;
+use c_types::answer::LegendAnswer;
 use c_types::samples;
 use refusal::Index;
 ghost use mathlib.Core.List.{map};

@@ -1,10 +1,10 @@
 // A legend as C holds it.
 use banded::Banded;
-use c_types::answer;
-use c_types::answer::LegendAnswer;
 use c_settings::forms::Form;
 use c_settings::settings;
 use c_settings::settings::LegendSettings;
+use c_types::answer;
+use c_types::answer::LegendAnswer;
 use catgegoric::CategoricNumeric;
 use legend::Legend;
 use legend::LegendKind;

@@ -1,6 +1,6 @@
 // Rows of legends: the builder's answer, the range of values, the list of colours, and every painting of the samples.
-use answer_legends::build;
 use crate::by_value;
+use answer_legends::build;
 use answer_rows::place;
 use answer_rows::row;
 use cast::Nodata;
