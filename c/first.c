@@ -62,7 +62,7 @@ int main(void) {
     const int64_t keys[2] = {7, -3};
     const LegendMade categories = legend_create_categoric_for_value_list(ends, 2, keys, 2, settings);
     printf("%08" PRIx32 "\n", legend_color_for_i16(&categories.legend, -3, 0, 0).color);
-    const LegendValueRange range = legend_total_value_range(categories.legend);
+    const LegendValueRange range = legend_total_value_range(&categories.legend);
     printf("from %.1f to %.1f\n", range.start, range.end);
 
     /* A refusal has a number, and some an index. Where a painting is refused, its buffers are as they were. */

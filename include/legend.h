@@ -223,8 +223,9 @@ LegendMade legend_create_categoric_for_value_range_from_ramp(const uint32_t ramp
  * Each is refused by 100 for a flag of the legend, by 101 for its kind, by 100 for `nodata_given` where there is one,
  * by 16 for a stored count; then as its line says. `nodata` counts where `nodata_given` is 1.
  *
- * Painting and the colour of a sample take a pointer to the legend: its ramp, its keys with their colours and its table
- * are lent to the library's own calls, the legend_lent_ ones below, and are not copied. */
+ * Each takes a pointer to the legend. For painting and the colour of a sample its ramp, its keys with their colours and
+ * its table are lent to the library's own calls, the legend_lent_ ones below, and are not copied; the legend_record_ ones
+ * are handed a copy. */
 
 /* What is neither an array of a legend nor its bands. */
 typedef struct LegendHead {
@@ -357,7 +358,11 @@ typedef struct LegendValueRange {
 } LegendValueRange;
 
 /* Refused: 17 for a stored key. */
-LegendValueRange legend_total_value_range(LegendRecord legend);
+LegendValueRange legend_record_total_value_range(LegendRecord legend);
+
+static inline LegendValueRange legend_total_value_range(const LegendRecord *legend) {
+    return legend_record_total_value_range(*legend);
+}
 
 /* A legend's 256 colours from its lowest to its highest value, all 0 beside a refusal. */
 typedef struct LegendColorList {
@@ -366,7 +371,11 @@ typedef struct LegendColorList {
 } LegendColorList;
 
 /* Refused: 17 for a stored key. */
-LegendColorList legend_color_list(LegendRecord legend);
+LegendColorList legend_record_color_list(LegendRecord legend);
+
+static inline LegendColorList legend_color_list(const LegendRecord *legend) {
+    return legend_record_color_list(*legend);
+}
 
 #ifdef __cplusplus
 }

@@ -112,20 +112,18 @@ pub extern "C" fn legend_lent_color_for_i16(
     )
 }
 
-// ---- the whole range of values
+// ---- the whole range of values, and the list of colours. Once a legend, so the record comes by value: the header's functions take a pointer.
 
 #[no_mangle]
-pub extern "C" fn legend_total_value_range(legend: LegendRecord) -> LegendValueRange
+pub extern "C" fn legend_record_total_value_range(legend: LegendRecord) -> LegendValueRange
     ensures { λ r. ⌜ r ≡ rangeUnless (legendForm (legend .settings) (legend .kind)) (totalValueRange (legendOf legend)) ⌝ }
 {
     let range = value_range::total_value_range(record::legend_of(legend));
     uses::range_unless(forms::legend_form(legend.settings, legend.kind), range)
 }
 
-// ---- the list of colours
-
 #[no_mangle]
-pub extern "C" fn legend_color_list(legend: LegendRecord) -> LegendColorList
+pub extern "C" fn legend_record_color_list(legend: LegendRecord) -> LegendColorList
     ensures { λ r. ⌜ r ≡ listUnless (legendForm (legend .settings) (legend .kind)) (colorList (legendOf legend)) ⌝ }
 {
     let list = apply::color_list(record::legend_of(legend));

@@ -495,8 +495,8 @@ unsafe extern "C" {
         scratch: *mut Color,
         scratch_length: usize,
     ) -> LegendAnswer;
-    fn legend_total_value_range(legend: LegendRecord) -> LegendValueRange;
-    fn legend_color_list(legend: LegendRecord) -> LegendColorList;
+    fn legend_record_total_value_range(legend: LegendRecord) -> LegendValueRange;
+    fn legend_record_color_list(legend: LegendRecord) -> LegendColorList;
 }
 
 /// The colour of `#RRGGBB` or `#RRGGBBAA`.
@@ -722,13 +722,13 @@ sample_calls!(
 /// The whole range of the values of a legend.
 pub fn total_value_range(legend: &LegendRecord) -> LegendValueRange {
     // SAFETY: the call takes and gives plain values, and its contract asks nothing of them.
-    unsafe { legend_total_value_range(*legend) }
+    unsafe { legend_record_total_value_range(*legend) }
 }
 
 /// The colours from the lowest to the highest value of a legend.
 pub fn color_list(legend: &LegendRecord) -> LegendColorList {
     // SAFETY: the call takes and gives plain values, and its contract asks nothing of them.
-    unsafe { legend_color_list(*legend) }
+    unsafe { legend_record_color_list(*legend) }
 }
 
 /// Words as the colours that they are.

@@ -1,11 +1,11 @@
--- `uses::legend_color_list` meets its contract. Assumes nothing.
+-- `uses::legend_record_color_list` meets its contract. Assumes nothing.
 use mathlib.Core.Path.{ap, _∙_}
 use Rattle.apply.specs.ColorLists.{colorList}
 use Rattle.c_answers.specs.Uses.{listUnless}
 use Rattle.c_settings.proofs.Unless.{unless}
 use borrow.Author.Needs.{needs}
-use Rattle.c_queries.proofs.uses.legend_color_list.Statement.{statement}
-use Rattle.c_queries.proofs.uses.legend_color_list.Tie as tie
+use Rattle.c_queries.proofs.uses.legend_record_color_list.Statement.{statement}
+use Rattle.c_queries.proofs.uses.legend_record_color_list.Tie as tie
 
 legend-of-requires : tie.Need-legend-of-requires
 legend-of-requires c κs = search needs
@@ -22,8 +22,8 @@ list-unless-requires c κs = search needs
 returns : tie.Need-returns
 returns c = unless listUnless (c .list-unless .ensures) (c .before .legend-form .ensures) (c .before .before .color-list .ensures ∙ ap colorList (c .before .before .before .legend-of .ensures))
 
-pub legend-color-list-spec : {M : Type 1} → statement M
-legend-color-list-spec =
+pub legend-record-color-list-spec : {M : Type 1} → statement M
+legend-record-color-list-spec =
     tie.close
     (tie.spec
     legend-of-requires
