@@ -58,12 +58,14 @@ int main(void) {
         print_words(out, 5);
     }
 
-    /* Categories, and the range of their keys. */
+    /* Categories, the range of their keys, and the last of the colours from its lowest to its highest. */
     const int64_t keys[2] = {7, -3};
     const LegendMade categories = legend_create_categoric_for_value_list(ends, 2, keys, 2, settings);
     printf("%08" PRIx32 "\n", legend_color_for_i16(&categories.legend, -3, 0, 0).color);
     const LegendValueRange range = legend_total_value_range(&categories.legend);
     printf("from %.1f to %.1f\n", range.start, range.end);
+    const LegendColorList list = legend_color_list(&categories.legend);
+    printf("%08" PRIx32 "\n", list.colors[255]);
 
     /* A refusal has a number, and some an index. Where a painting is refused, its buffers are as they were. */
     printf("refused %" PRIu32 "\n", legend_paint_f32(&linear.legend, raster, 8, 0, 0.0f, out, 7).number);

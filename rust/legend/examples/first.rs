@@ -56,11 +56,12 @@ fn legend_lines(ends: &[Color; 2]) -> Result<Vec<String>, Refusal> {
     banded.paint_lanes(Lanes::Four, &[0u8, 49, 50, 201, 100], None, &mut out[..5], &mut scratch)?;
     lines.extend(out[..5].iter().copied().map(word));
 
-    // Categories, and the range of their keys.
+    // Categories, the range of their keys, and the last of the colours from its lowest to its highest.
     let categories = Legend::categories_for_values(ends, &[7, -3], settings)?;
     lines.push(word(categories.color_for_value(-3i16, None)?));
     let range = categories.total_value_range()?;
     lines.push(format!("from {:.1} to {:.1}", range.start(), range.end()));
+    lines.push(word(categories.color_list()?[255]));
 
     // A refusal has a number, and some an index. Where a painting is refused, its buffers are as they were.
     if let Err(refused) = linear.paint(&raster, None, &mut out[..7]) {
