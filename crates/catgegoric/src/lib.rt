@@ -44,35 +44,65 @@ impl CategoricNumeric {
             lookup_count: 0,
         }
     }
-}
 
-// ---- categories by values
-
-pub fn for_values(values: &[i64], colors: &[u32]) -> MadeCategoric
-    ensures { λ r. ⌜ r ≡ forValues (now (values .entry)) (now (colors .entry)) ⌝ }
-{
-    let count = values.len();
-    let answer = values_refusal(count, colors.len());
-    if let Answer::Refused(_) = answer {
-        return refused(answer);
+    // A category for each value, with the colours of a list.
+    pub fn for_values(values: &[i64], colors: &[u32]) -> MadeCategoric
+        ensures { λ r. ⌜ r ≡ forValues (now (values .entry)) (now (colors .entry)) ⌝ }
+    {
+        let count = values.len();
+        let answer = values_refusal(count, colors.len());
+        if let Answer::Refused(_) = answer {
+            return refused(answer);
+        }
+        let keys = key_lists::list_keys(values);
+        let words = colormap::list_colors(colors);
+        create(&keys, &words, count)
     }
-    let keys = key_lists::list_keys(values);
-    let words = colormap::list_colors(colors);
-    create(&keys, &words, count)
+
+    // The same with the colours of a ramp.
+    pub fn for_values_from_ramp(values: &[i64], cmap: &[u32; 256]) -> MadeCategoric
+        ensures { λ r. ⌜ r ≡ forValuesFromRamp (now (values .entry)) (now (cmap .entry)) ⌝ }
+    {
+        let count = values.len();
+        let answer = many_refusal(count);
+        if let Answer::Refused(_) = answer {
+            return refused(answer);
+        }
+        let keys = key_lists::list_keys(values);
+        let words = colormap::ramp_colors(cmap, count);
+        create(&keys, &words, count)
+    }
+
+    // A category for each whole number of a range, with the colours of a list.
+    pub fn for_value_range(start: i64, end: i64, colors: &[u32]) -> MadeCategoric
+        ensures { λ r. ⌜ r ≡ forValueRange start end (now (colors .entry)) ⌝ }
+    {
+        let answer = range_refusal(start, end, colors.len());
+        if let Answer::Refused(_) = answer {
+            return refused(answer);
+        }
+        let count = key_lists::key_count(start, end);
+        let keys = key_lists::range_keys(start, count);
+        let words = colormap::list_colors(colors);
+        create(&keys, &words, count)
+    }
+
+    // The same with the colours of a ramp.
+    pub fn for_value_range_from_ramp(start: i64, end: i64, cmap: &[u32; 256]) -> MadeCategoric
+        ensures { λ r. ⌜ r ≡ forValueRangeFromRamp start end (now (cmap .entry)) ⌝ }
+    {
+        let answer = wide_refusal(start, end);
+        if let Answer::Refused(_) = answer {
+            return refused(answer);
+        }
+        let count = key_lists::key_count(start, end);
+        let keys = key_lists::range_keys(start, count);
+        let words = colormap::ramp_colors(cmap, count);
+        create(&keys, &words, count)
+    }
 }
 
-pub fn for_values_from_ramp(values: &[i64], cmap: &[u32; 256]) -> MadeCategoric
-    ensures { λ r. ⌜ r ≡ forValuesFromRamp (now (values .entry)) (now (cmap .entry)) ⌝ }
-{
-    let count = values.len();
-    let answer = many_refusal(count);
-    if let Answer::Refused(_) = answer {
-        return refused(answer);
-    }
-    let keys = key_lists::list_keys(values);
-    let words = colormap::ramp_colors(cmap, count);
-    create(&keys, &words, count)
-}
+// ---- what is refused of values
 
 fn values_refusal(values: usize, colors: usize) -> Answer
     ensures { λ r. ⌜ r ≡ valuesRefusal values colors Done ⌝ }
@@ -95,33 +125,7 @@ fn many_refusal(count: usize) -> Answer
     Answer::Done
 }
 
-// ---- categories by range
-
-pub fn for_value_range(start: i64, end: i64, colors: &[u32]) -> MadeCategoric
-    ensures { λ r. ⌜ r ≡ forValueRange start end (now (colors .entry)) ⌝ }
-{
-    let answer = range_refusal(start, end, colors.len());
-    if let Answer::Refused(_) = answer {
-        return refused(answer);
-    }
-    let count = key_lists::key_count(start, end);
-    let keys = key_lists::range_keys(start, count);
-    let words = colormap::list_colors(colors);
-    create(&keys, &words, count)
-}
-
-pub fn for_value_range_from_ramp(start: i64, end: i64, cmap: &[u32; 256]) -> MadeCategoric
-    ensures { λ r. ⌜ r ≡ forValueRangeFromRamp start end (now (cmap .entry)) ⌝ }
-{
-    let answer = wide_refusal(start, end);
-    if let Answer::Refused(_) = answer {
-        return refused(answer);
-    }
-    let count = key_lists::key_count(start, end);
-    let keys = key_lists::range_keys(start, count);
-    let words = colormap::ramp_colors(cmap, count);
-    create(&keys, &words, count)
-}
+// ---- what is refused of a range
 
 fn range_refusal(start: i64, end: i64, colors: usize) -> Answer
     ensures { λ r. ⌜ r ≡ rangeRefusal start end colors Done ⌝ }

@@ -2,6 +2,7 @@
 use band_lists::ValueRanges;
 use banded::Banded;
 use banded::MadeBanded;
+use catgegoric::CategoricNumeric;
 use catgegoric::MadeCategoric;
 use colormap::ProcessedColorMap;
 use colormapper::MappingConfig;
@@ -149,7 +150,7 @@ pub fn create_categoric_for_value_list(
 ) -> MadeLegend
     ensures { λ r. ⌜ r ≡ madeCategoric (forValues (now (values .entry)) (now (colors .entry))) config ⌝ }
 {
-    made_categoric(catgegoric::for_values(values, colors), config)
+    made_categoric(CategoricNumeric::for_values(values, colors), config)
 }
 
 pub fn create_categoric_for_value_list_from_ramp(
@@ -159,7 +160,7 @@ pub fn create_categoric_for_value_list_from_ramp(
 ) -> MadeLegend
     ensures { λ r. ⌜ r ≡ madeCategoric (forValuesFromRamp (now (values .entry)) (now (cmap .entry))) config ⌝ }
 {
-    made_categoric(catgegoric::for_values_from_ramp(values, cmap), config)
+    made_categoric(CategoricNumeric::for_values_from_ramp(values, cmap), config)
 }
 
 pub fn create_categoric_for_value_range(
@@ -170,7 +171,10 @@ pub fn create_categoric_for_value_range(
 ) -> MadeLegend
     ensures { λ r. ⌜ r ≡ madeCategoric (forValueRange start end (now (colors .entry))) config ⌝ }
 {
-    made_categoric(catgegoric::for_value_range(start, end, colors), config)
+    made_categoric(
+        CategoricNumeric::for_value_range(start, end, colors),
+        config,
+    )
 }
 
 pub fn create_categoric_for_value_range_from_ramp(
@@ -182,7 +186,7 @@ pub fn create_categoric_for_value_range_from_ramp(
     ensures { λ r. ⌜ r ≡ madeCategoric (forValueRangeFromRamp start end (now (cmap .entry))) config ⌝ }
 {
     made_categoric(
-        catgegoric::for_value_range_from_ramp(start, end, cmap),
+        CategoricNumeric::for_value_range_from_ramp(start, end, cmap),
         config,
     )
 }

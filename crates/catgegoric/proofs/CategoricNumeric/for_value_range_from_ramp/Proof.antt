@@ -1,4 +1,4 @@
--- `for_value_range_from_ramp` meets its contract: past the checks the counted places hold the keys of the range and their colours. Assumes nothing.
+-- `CategoricNumeric::for_value_range_from_ramp` meets its contract: past the checks the counted places hold the keys of the range and their colours. Assumes nothing.
 use mathlib.Core.Path.{_≡_, sym, subst, ap, _∙_}
 use Prim.Native.Nat.{_^_, _<_, _≤_}
 use native.Mathlib.Omega.{arith}
@@ -19,8 +19,8 @@ use Rattle.catgegoric.specs.Made.{wideRefusal}
 use Rattle.key_lists.proofs.Numbers.{back, back₂}
 use Rattle.key_lists.proofs.Ranges.{key-fits, keys-are, length-range}
 use Rattle.catgegoric.proofs.Making.{wide-checks, wide-narrow, wide-few, stopped, built, refused, counted-list, length-ramp}
-use Rattle.catgegoric.proofs.for_value_range_from_ramp.Statement.{statement}
-use Rattle.catgegoric.proofs.for_value_range_from_ramp.Tie as tie
+use Rattle.catgegoric.proofs.CategoricNumeric.for_value_range_from_ramp.Statement.{statement}
+use Rattle.catgegoric.proofs.CategoricNumeric.for_value_range_from_ramp.Tie as tie
 
 -- what the refusal, the count and the keys are
 refusal-is : (c : tie.After-wide-refusal) → c .wide-refusal .result ≡ wideRefusal (c .before .args .start) (c .before .args .end) Done

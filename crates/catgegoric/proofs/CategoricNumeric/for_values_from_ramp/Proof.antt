@@ -1,4 +1,4 @@
--- `for_values_from_ramp` meets its contract: past the checks the counted places hold the values and their colours. Assumes nothing.
+-- `CategoricNumeric::for_values_from_ramp` meets its contract: past the checks the counted places hold the values and their colours. Assumes nothing.
 use mathlib.Core.Path.{sym, refl, ap, _∙_}
 use native.Mathlib.Omega.{arith}
 use borrow.Author.Needs.{needs}
@@ -9,8 +9,8 @@ use Rattle.lists.proofs.Padding.{length-padded}
 use Rattle.catgegoric.specs.Made.{manyRefusal}
 use Rattle.key_lists.specs.Keys.{keysRefusal}
 use Rattle.catgegoric.proofs.Making.{many-checks, few, stopped, built, refused, counted-list, length-ramp}
-use Rattle.catgegoric.proofs.for_values_from_ramp.Statement.{statement}
-use Rattle.catgegoric.proofs.for_values_from_ramp.Tie as tie
+use Rattle.catgegoric.proofs.CategoricNumeric.for_values_from_ramp.Statement.{statement}
+use Rattle.catgegoric.proofs.CategoricNumeric.for_values_from_ramp.Tie as tie
 
 many-refusal-requires : tie.Need-many-refusal-requires
 many-refusal-requires c κs = search needs

@@ -1,4 +1,4 @@
--- `for_value_range` meets its contract: past the checks the counted places hold the keys of the range and the colours. Assumes nothing.
+-- `CategoricNumeric::for_value_range` meets its contract: past the checks the counted places hold the keys of the range and the colours. Assumes nothing.
 use mathlib.Core.Path.{_≡_, sym, subst, ap, _∙_}
 use Prim.Native.Nat.{_^_, _<_, _≤_}
 use native.Mathlib.Omega.{arith}
@@ -18,8 +18,8 @@ use Rattle.catgegoric.specs.Made.{wideRefusal, rangeRefusal}
 use Rattle.key_lists.proofs.Numbers.{back, back₂}
 use Rattle.key_lists.proofs.Ranges.{key-fits, keys-are, length-range}
 use Rattle.catgegoric.proofs.Making.{range-checks, wide-narrow, wide-few, range-wide, range-match, stopped, built, refused, counted-list}
-use Rattle.catgegoric.proofs.for_value_range.Statement.{statement}
-use Rattle.catgegoric.proofs.for_value_range.Tie as tie
+use Rattle.catgegoric.proofs.CategoricNumeric.for_value_range.Statement.{statement}
+use Rattle.catgegoric.proofs.CategoricNumeric.for_value_range.Tie as tie
 
 -- what the refusal, the count and the keys are
 refusal-is : (c : tie.After-range-refusal) → c .range-refusal .result ≡ rangeRefusal (c .before .before .args .start) (c .before .before .args .end) (length (c .before .before .args .colors .now)) Done

@@ -1,4 +1,4 @@
--- `for_values` meets its contract: past the checks the counted places hold the values and the colours. Assumes nothing.
+-- `CategoricNumeric::for_values` meets its contract: past the checks the counted places hold the values and the colours. Assumes nothing.
 use mathlib.Core.Path.{sym, refl, ap, _∙_}
 use native.Mathlib.Omega.{arith}
 use borrow.Author.Needs.{needs}
@@ -8,8 +8,8 @@ use Rattle.lists.proofs.Padding.{length-padded}
 use Rattle.catgegoric.specs.Made.{valuesRefusal}
 use Rattle.key_lists.specs.Keys.{keysRefusal}
 use Rattle.catgegoric.proofs.Making.{values-checks, values-few, values-match, stopped, built, refused, counted-list}
-use Rattle.catgegoric.proofs.for_values.Statement.{statement}
-use Rattle.catgegoric.proofs.for_values.Tie as tie
+use Rattle.catgegoric.proofs.CategoricNumeric.for_values.Statement.{statement}
+use Rattle.catgegoric.proofs.CategoricNumeric.for_values.Tie as tie
 
 values-refusal-requires : tie.Need-values-refusal-requires
 values-refusal-requires c κs = search needs
