@@ -99,7 +99,7 @@ fn enter(
     let mut i: usize = 0;
     while i < lanes {
         let held = band.holds(value[i]);
-        words[i] = bands::pick(held, band.color, words[i]);
+        words[i] = select::pick(held, band.color, words[i]);
         let entered = inside[i] | held;
         inside[i] = entered;
         all = all & entered;

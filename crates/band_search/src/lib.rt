@@ -55,7 +55,7 @@ pub fn colors_at(
     while i < lanes {
         let place = places[i] as usize;
         let held = (starts[place] <= value[i]) & (value[i] < ends[place]);
-        result[i] = pick(held, colors[place], otherwise[i]);
+        result[i] = select::pick(held, colors[place], otherwise[i]);
         i += 1;
     }
     result
@@ -80,11 +80,4 @@ pub fn all_held(
         i += 1;
     }
     all
-}
-
-// One of two words by a flag: a select, and no branch in the loops.
-fn pick(flag: bool, x: u32, y: u32) -> u32
-    ensures { λ r. ⌜ r ≡ cond flag x y ⌝ }
-{
-    if flag { x } else { y }
 }

@@ -116,7 +116,7 @@ fn overwritten(band: LegendBand, value: [f32; 16], words: [u32; 16]) -> [u32; 16
     let mut result = [0u32; 16];
     let mut i: usize = 0;
     while i < 16 {
-        result[i] = pick(band.holds(value[i]), band.color, words[i]);
+        result[i] = select::pick(band.holds(value[i]), band.color, words[i]);
         i += 1;
     }
     result
@@ -126,10 +126,10 @@ fn overwritten(band: LegendBand, value: [f32; 16], words: [u32; 16]) -> [u32; 16
 fn edge_color(first: LegendBand, last: LegendBand, u: UnmappableColors, value: f32) -> u32
     ensures { λ r. ⌜ r ≡ edgeColor first last u value ⌝ }
 {
-    let x = pick(value > last.end, u.high, u.nodata);
-    let y = pick(is_within(last.end, value), last.color, x);
-    let z = pick(value < first.start, u.low, y);
-    pick(is_within(first.start, value), first.color, z)
+    let x = select::pick(value > last.end, u.high, u.nodata);
+    let y = select::pick(is_within(last.end, value), last.color, x);
+    let z = select::pick(value < first.start, u.low, y);
+    select::pick(is_within(first.start, value), first.color, z)
 }
 
 pub fn edge_colors(
@@ -168,11 +168,4 @@ pub fn is_within(edge: f32, value: f32) -> bool
 {
     let d = value - edge;
     (d < LegendBand::EDGE_TOLERANCE) & (-d < LegendBand::EDGE_TOLERANCE)
-}
-
-// One of two words by a flag: a select, and no branch in the loops.
-pub fn pick(flag: bool, x: u32, y: u32) -> u32
-    ensures { λ r. ⌜ r ≡ cond flag x y ⌝ }
-{
-    if flag { x } else { y }
 }

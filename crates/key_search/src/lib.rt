@@ -90,15 +90,8 @@ fn known(key: [i32; 16], found: [i32; 16], words: [u32; 16], nodata: u32) -> [u3
     let mut result = [0u32; 16];
     let mut i: usize = 0;
     while i < 16 {
-        result[i] = pick(found[i] == key[i], words[i], nodata);
+        result[i] = select::pick(found[i] == key[i], words[i], nodata);
         i += 1;
     }
     result
-}
-
-// One of two words by a flag: a select in the loop over lanes.
-fn pick(flag: bool, x: u32, y: u32) -> u32
-    ensures { λ r. ⌜ r ≡ cond flag x y ⌝ }
-{
-    if flag { x } else { y }
 }

@@ -18,10 +18,10 @@ fn lane_edge_color(
 ) -> u32
     ensures { λ r. ⌜ r ≡ laneEdgeColor first last u value color ⌝ }
 {
-    let x = bands::pick(value < first.start, u.low, color);
-    let y = bands::pick(value > last.end, u.high, x);
-    let z = bands::pick(bands::is_within(first.start, value), first.color, y);
-    bands::pick(bands::is_within(last.end, value), last.color, z)
+    let x = select::pick(value < first.start, u.low, color);
+    let y = select::pick(value > last.end, u.high, x);
+    let z = select::pick(bands::is_within(first.start, value), first.color, y);
+    select::pick(bands::is_within(last.end, value), last.color, z)
 }
 
 pub fn lane_edge_colors(

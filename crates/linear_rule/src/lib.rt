@@ -128,12 +128,5 @@ fn in_range(start: f32, end: f32, u: UnmappableColors, value: f32, color: u32) -
 {
     let below = value < start - EDGE_TOLERANCE;
     let above = value > end + EDGE_TOLERANCE;
-    pick(below, u.low, pick(above, u.high, color))
-}
-
-// One of two words by a flag: a select, and no branch in the loops.
-fn pick(flag: bool, x: u32, y: u32) -> u32
-    ensures { λ r. ⌜ r ≡ cond flag x y ⌝ }
-{
-    if flag { x } else { y }
+    select::pick(below, u.low, select::pick(above, u.high, color))
 }

@@ -43,7 +43,7 @@ pub fn get_color(cmap: &[u32; 256], fraction: f32) -> u32
     ensures { λ r. ⌜ r ≡ entryColor (now (cmap .entry)) (plainEntry fraction) ⌝ }
 {
     let index = round::nearest(unit(fraction) * 255.0);
-    pick(in_unit(fraction), cmap[index], 0)
+    select::pick(in_unit(fraction), cmap[index], 0)
 }
 
 // The colours of a chunk's fractions. Each lane looks up, and a fraction outside is replaced after that: a load under a branch
@@ -92,7 +92,7 @@ fn mappable(lanes: usize, fraction: [f32; 16], colors: [u32; 16]) -> [u32; 16]
     let mut result = [0u32; 16];
     let mut i: usize = 0;
     while i < lanes {
-        result[i] = pick(in_unit(fraction[i]), colors[i], 0);
+        result[i] = select::pick(in_unit(fraction[i]), colors[i], 0);
         i += 1;
     }
     result
@@ -123,11 +123,4 @@ fn lane_index(fraction: f32) -> usize
     ensures { λ r. ⌜ (r ≡ laneIndex fraction) × (r < 256) ⌝ }
 {
     round::floor(fraction * 255.0 + 0.5)
-}
-
-// One of two words by a flag: a select, and no branch in the loops.
-fn pick(flag: bool, x: u32, y: u32) -> u32
-    ensures { λ r. ⌜ r ≡ cond flag x y ⌝ }
-{
-    if flag { x } else { y }
 }

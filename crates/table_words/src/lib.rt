@@ -71,7 +71,7 @@ pub fn known(
     while i < lanes {
         let v = value[i];
         let own = in_table(size, v) & (v != absent) & (v != zero);
-        result[i] = pick(own, words[i], nodata);
+        result[i] = select::pick(own, words[i], nodata);
         i += 1;
     }
     result
@@ -101,11 +101,4 @@ fn limit_of(size: usize) -> f32
     ensures { λ r. ⌜ r ≡ limit size ⌝ }
 {
     if size == 0 { -1.0 } else { size as f32 }
-}
-
-// One of two words by a flag: a select in the loops over lanes.
-fn pick(flag: bool, x: u32, y: u32) -> u32
-    ensures { λ r. ⌜ r ≡ cond flag x y ⌝ }
-{
-    if flag { x } else { y }
 }
