@@ -32,7 +32,7 @@ pub struct MadeBanded {
 
 impl Banded {
     // How near to the outer edges a sample still gets the edge band's colour.
-    pub const EDGE_TOLERANCE: f32 = 1e-4;
+    pub const EDGE_TOLERANCE: f32 = LegendBand::EDGE_TOLERANCE;
 
     // The constant as a value with a contract.
     pub fn edge_tolerance() -> f32
