@@ -90,8 +90,8 @@ LegendRamp legend_ramp_from_palette(size_t number);
  * NaN. */
 uint32_t legend_get_color(const uint32_t ramp[256], float fraction);
 
-/* The same by the rule of lane painting: entry floor(fraction * 255 + 0.5), at most 255. The two differ at few
- * fractions. */
+/* The same by the rule of lane painting: entry floor(fraction * 255 + 0.5), at most 255. The two differ at one fraction,
+ * 65,793 / 2^25: entry 0 there, and entry 1 here. */
 uint32_t legend_get_color_simd(const uint32_t ramp[256], float fraction);
 
 /* ---- Keys ---- */
