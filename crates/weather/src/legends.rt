@@ -1,4 +1,6 @@
 // The legends of the maps.
+use crate::field::Field;
+use crate::scale::Scale;
 use colormapper::MappingConfig;
 use colormapper::OptionalColor;
 use legend_builders::MadeLegend;
@@ -50,4 +52,15 @@ pub fn rain_categoric() -> MadeLegend {
     let made = colormap::create_for_preset(YL_GN_BU);
     let ramp = made.ramp;
     legend_builders::create_categoric_for_value_range_from_ramp(&ramp.cmap, 0, 40, settings(true))
+}
+
+// The numbers of a field's key: every fifth degree from -10 to 35, every fifth millimetre from 0 to 40.
+pub fn scale(field: Field) -> Scale {
+    match field {
+        Field::Temperature => Scale {
+            below: 10,
+            steps: 9,
+        },
+        Field::Rain => Scale { below: 0, steps: 8 },
+    }
 }

@@ -5,6 +5,7 @@ mod legends;
 mod map;
 mod png;
 mod say;
+mod scale;
 
 use field::Field;
 use legend_builders::MadeLegend;
@@ -25,7 +26,7 @@ fn show(name: &[u8], made: MadeLegend, field: Field) {
     let legend = made.legend;
     let drawn = map::rows(png::begin(fd), legend, field);
     let picture = drawn.picture;
-    let written = png::end(map::key(picture, legend));
+    let written = png::end(map::key(picture, legend, legends::scale(field)));
     libc::close(fd);
     if !written {
         os::fail(name);

@@ -4,6 +4,8 @@ use crate::field::Field;
 use crate::png;
 use crate::png::Picture;
 use crate::say;
+use crate::scale;
+use crate::scale::Scale;
 use legend::Legend;
 
 // The picture so far, and whether every painting so far had the same words.
@@ -75,16 +77,32 @@ fn same(plain: &[u32; 256], lanes: &[u32; 256], count: u64, y: u8) -> bool {
     true
 }
 
-// The key: four empty rows, and sixteen with the legend's colours from the lowest to the highest value.
-pub fn key(picture: Picture, legend: Legend) -> Picture {
+// The key: the legend's colours from the lowest to the highest value, marks, and the numbers that they stand for.
+pub fn key(picture: Picture, legend: Legend, scale: Scale) -> Picture {
     let list = apply::color_list(legend);
     let answer = list.answer;
     say::answer(answer);
-    let empty = [0u32; 256];
+    let empty = scale::paper();
     let colors = list.colors;
+    let marks = scale::marks(scale);
     let gap = bar(picture, &empty, 4);
-    let most = bar(gap, &colors, 15);
-    png::row(most, &colors, true)
+    let strip = bar(gap, &colors, 16);
+    let marked = bar(strip, &marks, 3);
+    let spaced = bar(marked, &empty, 1);
+    let told = bar(numbers(spaced, scale), &empty, 2);
+    png::row(told, &empty, true)
+}
+
+// The seven rows of the numbers.
+fn numbers(picture: Picture, scale: Scale) -> Picture {
+    let mut drawn = picture;
+    let mut row: u8 = 0;
+    while row < 7 {
+        let words = scale::numbers(scale, row);
+        drawn = png::row(drawn, &words, false);
+        row += 1;
+    }
+    drawn
 }
 
 // Some equal rows that are not the last.
