@@ -1,4 +1,4 @@
--- One step of a search by halving among 256 ascending numbers. Definitions only.
+-- The steps of a search among 256 ascending numbers: the first, and one by halving. Definitions only.
 use Prim.Native.Nat.{ℕ, _+_, _*_, _≤_, _<_}
 use mathlib.Core.List.{List}
 use lib.IntN.{ℤ, pos}
@@ -6,9 +6,19 @@ use lib.ListN.{getD}
 use lib.Signed.{leZ}
 use mir.Val.{boolByte}
 
+-- 1 where the number at a place is not above z
+abbrev pub reaches : (narrow : List ℤ) (z : ℤ) (place : ℕ) → ℕ
+reaches narrow z place = boolByte (leZ (getD narrow place (pos 0)) z)
+
+-- the first of the 32 places among which z can be: as many times 32 as the numbers at every thirty-second place that are not above z
+unfoldable pub leading : (narrow : List ℤ) (z : ℤ) → ℕ
+leading narrow z =
+    let r = reaches narrow z in
+    32 * (r 32 + r 64 + r 96 + r 128 + r 160 + r 192 + r 224)
+
 -- the place, or the one a step further where the number there is not above z
 unfoldable pub half : (narrow : List ℤ) (step : ℕ) (z : ℤ) (place : ℕ) → ℕ
-half narrow step z place = place + step * boolByte (leZ (getD narrow (place + step) (pos 0)) z)
+half narrow step z place = place + step * reaches narrow z (place + step)
 
 -- in each of sixteen lanes there are `width` numbers from the lane's place on
 abbrev pub Within : (width : ℕ) (places : List ℕ) → Type 0

@@ -1,18 +1,20 @@
-// Keys that ascend: sixteen samples looked up at once, by halving (docs/RULES.md, "Categoric"). The keys and the samples are narrowed
+// Keys that ascend: sixteen samples searched for at once (docs/RULES.md, "Categoric"). The keys and the samples are narrowed
 // to i32 first (`narrow_keys`).
 ghost use mathlib.Core.Path.{_≡_};
 ghost use mathlib.Core.Bool.{cond};
 ghost use mathlib.Core.List.{List};
-ghost use Prim.Native.Nat.{ℕ, _*_, _<_};
+ghost use Prim.Native.Nat.{ℕ, _*_, _<_, _≤_};
 ghost use lib.Ieee.{nan};
 ghost use lib.IntN.{ℤ, pos};
 ghost use lib.ListN.{getD};
+ghost use lib.Signed.{leZ};
+ghost use mir.Val.{boolByte};
 ghost use Rattle.categories.specs.Rule.{eqZ, keyColor};
 ghost use Rattle.lists.specs.Lanes.{Lanes};
 ghost use Rattle.narrow_keys.specs.Narrow.{Narrow};
-ghost use Rattle.key_search.specs.Halving.{half, Within};
+ghost use Rattle.key_search.specs.Halving.{leading, half, Within};
 
-// The colours of sixteen samples, by the keys: eight steps for 256 places.
+// The colours of sixteen samples, by the keys: one step to the 32 places of 256 among which a key can be, and five halvings.
 pub fn colors_for_numeric_values(
     narrow: &[i32; 256],
     colors: &[u32; 256],
@@ -22,18 +24,49 @@ pub fn colors_for_numeric_values(
     ensures { λ r. ⌜ ((keys : List ℤ) (count : ℕ) → Narrow keys count (now (narrow .entry)) → Lanes 0 16 r (λ k. keyColor keys (now (colors .entry)) count nodata (getD value k nan))) ⌝ }
 {
     let key = narrow_keys::narrowed_samples(value);
-    let a = [0u32; 16];
-    let b = halved(narrow, 128, key, a);
-    let c = halved(narrow, 64, key, b);
-    let d = halved(narrow, 32, key, c);
-    let e = halved(narrow, 16, key, d);
-    let f = halved(narrow, 8, key, e);
-    let g = halved(narrow, 4, key, f);
-    let h = halved(narrow, 2, key, g);
-    let i = halved(narrow, 1, key, h);
-    let found = keys_at(narrow, i);
-    let words = colors_at(colors, i);
+    let a = leading_places(narrow, key);
+    let b = halved(narrow, 16, key, a);
+    let c = halved(narrow, 8, key, b);
+    let d = halved(narrow, 4, key, c);
+    let e = halved(narrow, 2, key, d);
+    let f = halved(narrow, 1, key, e);
+    let found = keys_at(narrow, f);
+    let words = colors_at(colors, f);
     known(key, found, words, nodata)
+}
+
+// Each lane's leading place. Every lane reads the same seven numbers, so that this step needs no load by lane.
+fn leading_places(narrow: &[i32; 256], key: [i32; 16]) -> [u32; 16]
+    ensures { λ r. ⌜ (Lanes 0 16 r (λ k. leading (now (narrow .entry)) (getD key k (pos 0)))) × (Within 32 r) ⌝ }
+{
+    let mut result = [0u32; 16];
+    let mut i: usize = 0;
+    while i < 16 {
+        result[i] = leading_place(narrow, key[i]);
+        i += 1;
+    }
+    result
+}
+
+// The first of the 32 places among which a key can be: how many of the numbers at every thirty-second place are not above it.
+fn leading_place(narrow: &[i32; 256], key: i32) -> u32
+    ensures { λ r. ⌜ r ≡ leading (now (narrow .entry)) key ⌝ }
+{
+    let a = reached(narrow[32], key);
+    let b = reached(narrow[64], key);
+    let c = reached(narrow[96], key);
+    let d = reached(narrow[128], key);
+    let e = reached(narrow[160], key);
+    let f = reached(narrow[192], key);
+    let g = reached(narrow[224], key);
+    32 * (a + b + c + d + e + f + g)
+}
+
+// 1 where a number is not above a key, else 0.
+fn reached(number: i32, key: i32) -> u32
+    ensures { λ r. ⌜ (r ≡ boolByte (leZ number key)) × (r ≤ 1) ⌝ }
+{
+    (number <= key) as u32
 }
 
 // Each lane's half in which the key can be. The flag is a factor: as an `if` it would be a branch.
