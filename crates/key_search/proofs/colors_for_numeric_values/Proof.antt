@@ -1,10 +1,9 @@
 -- `colors_for_numeric_values` meets its contract. Assumes nothing.
 use borrow.Author.Needs.{needs}
 use mathlib.Core.Bool.{cond}
-use mathlib.Core.Path.{sym, subst, ap₂, _∙_}
-use Prim.Native.Nat.{ℕ, _+_, _≤_}
-use lib.ListN.{getD, getD-replicate}
-use lib.Dec.{lit<, lit≤}
+use mathlib.Core.Path.{ap₂, _∙_}
+use Prim.Native.Nat.{ℕ}
+use lib.ListN.{getD}
 use lib.IntN.{ℤ, pos}
 use lib.Ieee.{nan}
 use Rattle.categories.specs.Rule.{eqZ}
