@@ -3,7 +3,8 @@ ghost use mathlib.Core.Path.{_≡_};
 ghost use Prim.Native.Nat.{_≤_};
 ghost use lib.Ieee.{nan};
 ghost use lib.ListN.{getD};
-ghost use Rattle.lists.specs.Lanes.{Lanes};
+ghost use Rattle.floats.specs.RampIndex.{nought};
+ghost use Rattle.lists.specs.Lanes.{LanesOf};
 ghost use Rattle.interpolate.specs.Fraction.{fraction, plainFraction};
 
 pub fn linear_map_to_float(value: f32, min: f32, max: f32) -> f32
@@ -33,7 +34,7 @@ pub fn lane_fraction(value: f32, min: f32, max: f32) -> f32
 // The lane count is a literal of the caller's: a test of it here would stand in every chunk.
 pub fn linear_map_to_float_simd(lanes: usize, value: [f32; 16], min: f32, max: f32) -> [f32; 16]
     requires { ⌜ lanes ≤ 16 ⌝ }
-    ensures { λ r. ⌜ Lanes nan lanes r (λ k. fraction min max (getD value k nan)) ⌝ }
+    ensures { λ r. ⌜ LanesOf nought lanes (λ k. fraction min max (getD value k nan)) r ⌝ }
 {
     let mut result = [0.0f32; 16];
     let mut i: usize = 0;

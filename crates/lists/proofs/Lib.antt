@@ -2,3 +2,4 @@ pub mod Numbers
 pub mod Tabulated
 pub mod Padding
 pub mod Filling
+pub mod LanesOf

@@ -1,6 +1,6 @@
 -- A list in an array that has more places: its length, its entries, and one entry more. Assumes nothing.
 use mathlib.Core.Path.{_≡_, refl, sym, ap, _∙_}
-use mathlib.Core.List.{List, [], _∷_, _++_, append-assoc}
+use mathlib.Core.List.{List, [], _∷_, _++_, append-assoc, append-nil}
 use Prim.Native.Nat.{ℕ, zero, suc, _+_, _-_, _≤_, _<_}
 use mathlib.Core.Logic.{inl, inr}
 use native.Mathlib.Nat.{le-antisymm}
@@ -21,6 +21,10 @@ module _ {A : Type 0} (z : A) (n : ℕ) where
   pub padded-none : padded z n [] ≡ replicate n z
   unfolding padded
   padded-none = let e : n - 0 ≡ n = omega arith in ap (λ (m : ℕ). replicate m z) e
+
+  pub padded-full : (xs : List A) → length xs ≡ n → padded z n xs ≡ xs
+  unfolding padded
+  padded-full xs e = let none : n - length xs ≡ 0 = omega arith in ap (λ (m : ℕ). xs ++ replicate m z) none ∙ append-nil xs
 
   pub take-padded : (xs : List A) → take (length xs) (padded z n xs) ≡ xs
   unfolding padded

@@ -4,19 +4,22 @@ use native.Mathlib.Omega.{arith}
 use Prim.Native.Nat.{_-_}
 use lib.ListN.{getD}
 use Rattle.interpolate.specs.Fraction.{fraction}
-use lib.Ieee.{nan}
-use Rattle.lists.proofs.Filling.{Filling, filling-start, filling-turn, filling-end}
+use lib.Ieee.{nan, ofBits}
+use Rattle.floats.specs.RampIndex.{nought}
+use Rattle.lists.proofs.Padding.{Storing, storing-start, storing-turn}
+use Rattle.lists.proofs.LanesOf.{lanes-stored}
 use Rattle.interpolate.proofs.linear_map_to_float_simd.Statement.{statement}
 use Rattle.interpolate.proofs.linear_map_to_float_simd.Tie as tie
 
 abbrev Inv-loop : tie.InvT-loop
-Inv-loop lanes min max value result₀ i₀ result i = Filling nan (λ k. fraction min max (getD value k nan)) 16 lanes i result
+Inv-loop lanes min max value result₀ i₀ result i = Storing nought (λ k. fraction min max (getD value k nan)) 16 lanes i result
 
 abbrev μ-loop : tie.MeasureT-loop
 μ-loop lanes min max value result₀ i₀ result i = lanes - i
 
 loop-holds : tie.Need-loop-holds Inv-loop μ-loop
-loop-holds c = filling-start (search needs)
+unfolding ofBits
+loop-holds c = storing-start
 
 mul-lane-fraction : tie.Need-mul-lane-fraction Inv-loop μ-loop
 mul-lane-fraction c = search needs
@@ -40,10 +43,10 @@ loop-less : tie.Need-loop-less Inv-loop μ-loop
 loop-less c = search needs
 
 loop-again : tie.Need-loop-again Inv-loop μ-loop
-loop-again c = filling-turn (c .before .before .loop .inv) (omega arith) (omega arith) (c .lane-fraction .ensures)
+loop-again c = storing-turn (c .before .before .loop .inv) (omega arith) (omega arith) (c .lane-fraction .ensures)
 
 returns : tie.Need-returns Inv-loop μ-loop
-returns c = filling-end (c .before .loop .inv) (omega arith)
+returns c = lanes-stored (c .before .loop .inv) (omega arith)
 
 pub linear-map-to-float-simd-spec : {M : Type 1} → statement M
 linear-map-to-float-simd-spec =
