@@ -238,8 +238,13 @@ typedef struct LegendHead {
 } LegendHead;
 
 static inline LegendHead legend_head(const LegendRecord *legend) {
-    const LegendHead head = {legend->kind,       legend->settings,        legend->linear.start,
-                             legend->linear.end, legend->categoric.count, legend->categoric.lookup_count};
+    LegendHead head;
+    head.kind = legend->kind;
+    head.settings = legend->settings;
+    head.start = legend->linear.start;
+    head.end = legend->linear.end;
+    head.count = legend->categoric.count;
+    head.lookup_count = legend->categoric.lookup_count;
     return head;
 }
 

@@ -7,15 +7,11 @@ use std::collections::BTreeSet;
 use std::fs;
 use std::path::Path;
 use std::process::Command;
-use tools::{ARCHIVE, compiler, repository, run, run_c};
+use tools::{ARCHIVE, compiler, declared, header, repository, run, run_c, words_after};
 
 #[path = "../examples/first.rs"]
 #[allow(dead_code)]
 mod first;
-
-fn header() -> String {
-    fs::read_to_string(repository().join("include/legend.h")).expect("the header is there")
-}
 
 /// A struct's size and alignment, and each field's offset and size, as the Rust side has them.
 struct Layout {
@@ -115,20 +111,10 @@ fn every_struct_has_a_layout_here() {
     assert_eq!(declared, layouts().iter().map(|layout| layout.name.to_string()).collect());
 }
 
-/// The names that stand after each `mark`.
-fn words_after(text: &str, mark: &str) -> BTreeSet<String> {
-    let name = |part: &str| part.chars().take_while(|c| c.is_alphanumeric() || *c == '_').collect();
-    text.split(mark).skip(1).map(name).collect()
-}
-
 #[test]
 fn header_archive_and_crate_have_the_same_calls() {
     let symbols = run(Command::new("nm").args(["--defined-only", "--extern-only", ARCHIVE]));
     let exported = words_after(&symbols, " T ");
-    let declared = |text: &str| -> BTreeSet<String> {
-        let calls = words_after(text, " legend_").into_iter().map(|name| format!("legend_{name}"));
-        calls.filter(|name| text.contains(&format!("{name}("))).collect()
-    };
     assert!(!exported.is_empty());
     // The header's own functions are written in it; the others are the archive's.
     let inline: BTreeSet<String> =

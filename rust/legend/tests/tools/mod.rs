@@ -1,5 +1,9 @@
 //! What the tests that compile C have in common.
 
+#![allow(dead_code)]
+
+use std::collections::BTreeSet;
+use std::fs;
 use std::path::{Path, PathBuf};
 use std::process::Command;
 
@@ -12,6 +16,22 @@ const STRICT: [&str; 4] = ["-Wall", "-Wextra", "-Werror", "-pedantic"];
 
 pub fn repository() -> PathBuf {
     Path::new(env!("CARGO_MANIFEST_DIR")).join("../..")
+}
+
+pub fn header() -> String {
+    fs::read_to_string(repository().join("include/legend.h")).expect("the header is there")
+}
+
+/// The names that stand after each `mark`.
+pub fn words_after(text: &str, mark: &str) -> BTreeSet<String> {
+    let name = |part: &str| part.chars().take_while(|c| c.is_alphanumeric() || *c == '_').collect();
+    text.split(mark).skip(1).map(name).collect()
+}
+
+/// The names of the calls that a text declares or has bodies of, in C or in Rust.
+pub fn declared(text: &str) -> BTreeSet<String> {
+    let calls = words_after(text, " legend_").into_iter().map(|name| format!("legend_{name}"));
+    calls.filter(|name| text.contains(&format!("{name}("))).collect()
 }
 
 /// Runs a command, which has to succeed, and gives what it wrote.
