@@ -1,6 +1,7 @@
 //! Copies the reference's text into OUT_DIR, where src/lib.rs includes it. The text is in the folder that
 //! LEGEND_ORACLE_SRC names; by default in `shared/docs/src` beside the repository's folder, or beside the folder above
-//! it. Where there is none the crate still compiles, without the cfg `text`.
+//! it. Where there is none the crate still compiles, without the cfg `text`. The build scripts of crates over this one
+//! read DEP_LEGEND_ORACLE_PRESENT, which is 1 where the text is there.
 
 use std::path::{Path, PathBuf};
 use std::{env, fs};
@@ -23,6 +24,7 @@ fn main() {
     let crate_folder = PathBuf::from(env::var("CARGO_MANIFEST_DIR").expect("cargo names the crate's folder"));
     let Some(source) = source(&crate_folder) else {
         println!("cargo:warning=the reference's text is not here (LEGEND_ORACLE_SRC): nothing is compared with it");
+        println!("cargo:present=0");
         return;
     };
     let text = PathBuf::from(env::var("OUT_DIR").expect("cargo names the output folder")).join("text");
@@ -38,6 +40,7 @@ fn main() {
         fs::write(text.join(format!("{mapper}.rs")), module).expect("the output folder is writable");
     }
     println!("cargo:rustc-cfg=text");
+    println!("cargo:present=1");
 }
 
 /// The folder of the reference's files, if there is one.

@@ -23,6 +23,16 @@ pub trait Subject: Sync {
 
     /// Inputs that are smaller, the smallest first; none of an input that is smallest.
     fn smaller(&self, input: &Self::Input) -> Vec<Self::Input>;
+
+    /// What has to be among the inputs, by name: 64 names at most.
+    fn wanted(&self) -> &'static [&'static str] {
+        &[]
+    }
+
+    /// Which of the names an input has: bit k for the name k.
+    fn has(&self, _: &Self::Input) -> u64 {
+        0
+    }
 }
 
 /// Inputs by number, so that each can be made by itself.
@@ -34,6 +44,20 @@ pub struct Inputs<'a, I> {
 impl<'a, I> Inputs<'a, I> {
     pub fn new(count: u64, at: impl Fn(u64) -> I + Sync + 'a) -> Inputs<'a, I> {
         Inputs { count, at: Box::new(at) }
+    }
+}
+
+/// What a comparison without difference was: its cases, and how many inputs had each name that was wanted.
+#[derive(Debug, Default, PartialEq, Eq)]
+pub struct Compared {
+    pub cases: u64,
+    pub drawn: Vec<(&'static str, u64)>,
+}
+
+impl Compared {
+    /// The names that no input had.
+    pub fn missing(&self) -> Vec<&'static str> {
+        self.drawn.iter().filter(|(_, count)| *count == 0).map(|(name, _)| *name).collect()
     }
 }
 
@@ -90,10 +114,15 @@ impl Answers {
 /// How many inputs a thread takes at once.
 const BATCH: u64 = 16;
 
-/// Compares all inputs: the number of cases, or the difference at the smallest input found.
-pub fn compare<S: Subject>(subject: &S, inputs: &Inputs<S::Input>, fault: Option<Fault>) -> Result<u64, Difference> {
+/// Compares all inputs: what was compared, or the difference at the smallest input found.
+pub fn compare<S: Subject>(
+    subject: &S,
+    inputs: &Inputs<S::Input>,
+    fault: Option<Fault>,
+) -> Result<Compared, Difference> {
     let next = AtomicU64::new(0);
     let cases = AtomicU64::new(0);
+    let drawn: Vec<AtomicU64> = subject.wanted().iter().map(|_| AtomicU64::new(0)).collect();
     // The number of the first input that differs, so far.
     let first = AtomicU64::new(u64::MAX);
     let found: Mutex<Option<(u64, S::Input)>> = Mutex::new(None);
@@ -107,6 +136,10 @@ pub fn compare<S: Subject>(subject: &S, inputs: &Inputs<S::Input>, fault: Option
                 }
                 let input = (inputs.at)(number);
                 cases.fetch_add(subject.cases(&input), Ordering::Relaxed);
+                let has = subject.has(&input);
+                for (_, count) in drawn.iter().enumerate().filter(|(bit, _)| has >> bit & 1 == 1) {
+                    count.fetch_add(1, Ordering::Relaxed);
+                }
                 if answers.differ(subject, &input, fault) {
                     first.fetch_min(number, Ordering::Relaxed);
                     let mut found = found.lock().expect("no thread panicked");
@@ -127,7 +160,10 @@ pub fn compare<S: Subject>(subject: &S, inputs: &Inputs<S::Input>, fault: Option
         }
     });
     match found.into_inner().expect("no thread panicked") {
-        None => Ok(cases.into_inner()),
+        None => {
+            let counts = drawn.into_iter().map(AtomicU64::into_inner);
+            Ok(Compared { cases: cases.into_inner(), drawn: subject.wanted().iter().copied().zip(counts).collect() })
+        }
         Some((_, input)) => Err(smallest(subject, input, fault)),
     }
 }

@@ -1,15 +1,16 @@
 //! The whole comparison: `compare [--gate] [--seed N] [--random N] [--cases N] [--only WORDS]`. By default all f32
 //! patterns, all pairs of channel values, 10 million random inputs for each call and one in 20 as many where an input
 //! is a legend, and a seed from the clock. `--cases N` is about legends: N cases of them, and of the rest what the gate
-//! runs. WORDS pick the comparisons that have them in their names.
+//! runs. WORDS pick the comparisons that have them in their names. The program ends with 1 where there is a difference,
+//! or where inputs that a comparison wants were not drawn, as in a run that is much smaller than the gate's.
 
-use compare::plan::{Plan, absent, run_all};
+use compare::plan::{Plan, run_all, runs};
 use std::process::ExitCode;
 use std::time::{SystemTime, UNIX_EPOCH};
 
 fn main() -> ExitCode {
-    if absent() {
-        return ExitCode::SUCCESS;
+    if !oracle::PRESENT {
+        println!("the reference's text is not here (LEGEND_ORACLE_SRC): records are compared with the rules alone");
     }
     let clock = SystemTime::now().duration_since(UNIX_EPOCH).map_or(0, |now| now.as_secs());
     let (mut seed, mut random, mut gate, mut cases, mut only) = (clock, 10_000_000, false, None, String::new());
@@ -36,5 +37,5 @@ fn main() -> ExitCode {
         None if gate => Plan::gate(seed),
         None => Plan::full(seed, random),
     };
-    if run_all(&plan, &only).0 { ExitCode::SUCCESS } else { ExitCode::FAILURE }
+    if run_all(runs(), &plan, &only).0 { ExitCode::SUCCESS } else { ExitCode::FAILURE }
 }

@@ -1,8 +1,10 @@
 //! Which calls are compared, on which inputs, and how many.
 
-use crate::engine::{Difference, Fault, Inputs, Subject, compare};
+use crate::engine::{Compared, Difference, Fault, Inputs, Subject, compare};
+use crate::random::Random;
 use crate::subjects::legends::samples::Drawn;
 use crate::subjects::legends::{Kinds, builders, paintings, ranges, values};
+use crate::subjects::stored;
 use crate::subjects::{hex, keys, lookups, palettes, patterns, ramps};
 use std::time::{Duration, Instant};
 
@@ -46,7 +48,7 @@ impl Plan {
 /// builders that nothing added refuses.
 const CASES_OF_ONE: u64 = 33;
 
-type Go = dyn Fn(&Plan, Option<Fault>) -> Result<u64, Difference>;
+type Go = dyn Fn(&Plan, Option<Fault>) -> Result<Compared, Difference>;
 
 /// One comparison: a call over its inputs.
 pub struct Run {
@@ -57,7 +59,7 @@ pub struct Run {
 /// What a comparison without difference was.
 pub struct Report {
     pub name: &'static str,
-    pub cases: u64,
+    pub compared: Compared,
     pub time: Duration,
 }
 
@@ -70,18 +72,49 @@ impl Run {
         Run { name, go: Box::new(move |plan, fault| compare(&subject(), &inputs(plan), fault)) }
     }
 
+    /// Runs it over inputs of its own: its seed is made of the plan's and its name.
     pub fn go(&self, plan: &Plan, fault: Option<Fault>) -> Result<Report, Difference> {
         let began = Instant::now();
-        let cases = (self.go)(plan, fault)?;
-        Ok(Report { name: self.name, cases, time: began.elapsed() })
+        let compared = (self.go)(&Plan { seed: self.seed(plan.seed), ..*plan }, fault)?;
+        Ok(Report { name: self.name, compared, time: began.elapsed() })
+    }
+
+    /// The seed of this comparison's inputs in a run with a seed.
+    pub fn seed(&self, seed: u64) -> u64 {
+        self.name.bytes().fold(seed, |seed, byte| Random::new(seed, byte.into()).word())
     }
 }
 
-/// Every comparison.
+/// Every comparison that can be run: those with the reference where its text is here, and those with the rules.
 pub fn runs() -> Vec<Run> {
+    let mut all = if oracle::PRESENT { oracle_runs() } else { vec![] };
+    all.extend(rule_runs());
+    all
+}
+
+/// The comparisons with the reference.
+pub fn oracle_runs() -> Vec<Run> {
     let mut all = leaf_runs();
     all.extend(legend_runs());
     all
+}
+
+/// The comparisons with the rules, where the reference cannot hold the record.
+pub fn rule_runs() -> Vec<Run> {
+    vec![
+        ruled::<f32>("any record, against the rules, f32"),
+        ruled::<u8>("any record, against the rules, u8"),
+        ruled::<i16>("any record, against the rules, i16"),
+        Run::new(
+            "any record, total range and colour list, against the rules",
+            || stored::Wholes,
+            |plan| stored::random_records(plan.seed, plan.legends),
+        ),
+    ]
+}
+
+fn ruled<T: stored::Raw>(name: &'static str) -> Run {
+    Run::new(name, stored::Uses::<T>::default, |plan| stored::random(plan.seed, plan.legends))
 }
 
 /// The comparisons of builders and of a legend's uses.
@@ -137,16 +170,23 @@ fn leaf_runs() -> Vec<Run> {
     ]
 }
 
-/// Runs the comparisons whose names have `only` in them and prints a line for each; whether there was no difference, and
-/// how many cases there were.
-pub fn run_all(plan: &Plan, only: &str) -> (bool, u64) {
+/// Runs the comparisons of a list whose names have `only` in them and prints a line for each; whether there was no
+/// difference and nothing was missing among the inputs, and how many cases there were.
+pub fn run_all(runs: Vec<Run>, plan: &Plan, only: &str) -> (bool, u64) {
     println!("seed {}", plan.seed);
     let (mut same, mut total) = (true, 0);
-    for run in runs().into_iter().filter(|run| run.name.contains(only)) {
+    for run in runs.into_iter().filter(|run| run.name.contains(only)) {
         match run.go(plan, None) {
-            Ok(Report { name, cases, time }) => {
-                total += cases;
-                println!("{cases:>14} cases, no difference, {:>7.1} s: {name}", time.as_secs_f64());
+            Ok(Report { name, compared, time }) => {
+                total += compared.cases;
+                println!("{:>14} cases, no difference, {:>7.1} s: {name}", compared.cases, time.as_secs_f64());
+                for (what, count) in &compared.drawn {
+                    println!("{count:>14} inputs have {what}");
+                }
+                for what in compared.missing() {
+                    same = false;
+                    println!("NOT DRAWN: {name}: {what}");
+                }
             }
             Err(difference) => {
                 same = false;
@@ -156,12 +196,4 @@ pub fn run_all(plan: &Plan, only: &str) -> (bool, u64) {
     }
     println!("{total:>14} cases in all");
     (same, total)
-}
-
-/// What a test says, and returns, where there is nothing to compare with.
-pub fn absent() -> bool {
-    if !oracle::PRESENT {
-        println!("passed over: the reference's text is not here (LEGEND_ORACLE_SRC)");
-    }
-    !oracle::PRESENT
 }

@@ -7,6 +7,7 @@ pub mod lookups;
 pub mod palettes;
 pub mod patterns;
 pub mod ramps;
+pub mod stored;
 
 use legend::ffi::LegendAnswer;
 

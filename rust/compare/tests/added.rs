@@ -381,34 +381,42 @@ fn flags_and_kinds_of_records() {
     }
 }
 
-/// 13 for a plain painting; 14 before 15 before 13 for lanes. The buffers are as they were.
+/// 13 for a plain painting; 14 before 15 before 13 for lanes, for each type of sample. The buffers are as they were.
 #[test]
 fn buffers_of_paintings() {
-    for record in sound() {
-        for (samples, places) in [(0, 1), (1, 0), (8, 7), (8, 9), (8, 8)] {
-            let raster = vec![0.5f32; samples];
-            let mut out = lent(places);
-            let answer = ffi::paint_f32(&record, &raster, 0, 0.0, &mut out);
-            assert_eq!(answer, refused(if samples == places { 0 } else { 13 }));
-            assert_eq!(out == lent(places), samples != places);
-            for lanes in [0, 1, 2, 3, 4, 5, 8, 15, 16, 17, 32, usize::MAX] {
-                for spare in [0, 1, 15, 16, 17] {
-                    let (mut out, mut scratch) = (lent(places), lent(spare));
-                    let answer = ffi::paint_lanes_f32(&record, lanes, &raster, 0, 0.0, &mut out, &mut scratch);
-                    let number = match () {
-                        () if ![4, 8, 16].contains(&lanes) => 14,
-                        () if spare < 16 => 15,
-                        () if samples != places => 13,
-                        () => 0,
-                    };
-                    assert_eq!(answer, refused(number));
-                    assert_eq!((out == lent(places), scratch.len()), (number != 0, spare));
-                    let chunk = if number == 0 && samples >= lanes { lanes } else { 0 };
-                    assert_eq!(scratch[chunk..], lent(spare)[chunk..]);
+    macro_rules! buffers {
+        ($type:ty, $paint:ident, $paint_lanes:ident) => {
+            for record in sound() {
+                for (samples, places) in [(0, 1), (1, 0), (8, 7), (8, 9), (8, 8)] {
+                    let raster = vec![1 as $type; samples];
+                    let mut out = lent(places);
+                    let answer = ffi::$paint(&record, &raster, 0, 0 as $type, &mut out);
+                    assert_eq!(answer, refused(if samples == places { 0 } else { 13 }));
+                    assert_eq!(out == lent(places), samples != places);
+                    for lanes in [0, 1, 2, 3, 4, 5, 8, 15, 16, 17, 32, usize::MAX] {
+                        for spare in [0, 1, 15, 16, 17] {
+                            let (mut out, mut scratch) = (lent(places), lent(spare));
+                            let answer =
+                                ffi::$paint_lanes(&record, lanes, &raster, 0, 0 as $type, &mut out, &mut scratch);
+                            let number = match () {
+                                () if ![4, 8, 16].contains(&lanes) => 14,
+                                () if spare < 16 => 15,
+                                () if samples != places => 13,
+                                () => 0,
+                            };
+                            assert_eq!(answer, refused(number));
+                            assert_eq!((out == lent(places), scratch.len()), (number != 0, spare));
+                            let chunk = if number == 0 && samples >= lanes { lanes } else { 0 };
+                            assert_eq!(scratch[chunk..], lent(spare)[chunk..]);
+                        }
+                    }
                 }
             }
-        }
+        };
     }
+    buffers!(f32, paint_f32, paint_lanes_f32);
+    buffers!(u8, paint_u8, paint_lanes_u8);
+    buffers!(i16, paint_i16, paint_lanes_i16);
     let legend = Legend::linear(&greys(2), 0.0..=1.0, Settings::default()).unwrap();
     let (mut out, mut scratch) = (lent(8), lent(15));
     let short = legend.paint_lanes(Lanes::Eight, &[0u8; 8], None, &mut out, &mut scratch);

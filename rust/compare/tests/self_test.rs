@@ -1,19 +1,16 @@
 //! The comparison fails when it should.
 
 use compare::engine::{Fault, Inputs, Subject, compare};
-use compare::plan::{Plan, absent, runs};
+use compare::plan::{Plan, Run, oracle_runs, rule_runs, run_all};
 use compare::subjects::legends::paintings::{self, Painting, Paintings};
 use compare::subjects::legends::{Asked, Job, Kinds, builders};
 use compare::subjects::patterns::Block;
+use compare::subjects::stored::{self, Stored, Use, Uses, Wholes};
 use compare::subjects::{hex, lookups, patterns, ramps};
 
 /// One bit of one word of either side's answers, in each comparison.
-#[test]
-fn every_fault_is_caught() {
-    if absent() {
-        return;
-    }
-    for run in runs() {
+fn each_fault_is_caught(runs: Vec<Run>) {
+    for run in runs {
         let plan = Plan::least(1);
         assert!(run.go(&plan, None).is_ok(), "{}", run.name);
         for word in [0, 1, 2, 3, 100, 1000] {
@@ -21,6 +18,28 @@ fn every_fault_is_caught() {
                 assert!(run.go(&plan, Some(fault)).is_err(), "{}: {fault:?} was not caught", run.name);
             }
         }
+    }
+}
+
+#[test]
+#[cfg_attr(no_oracle, ignore = "the reference's text is absent")]
+fn every_fault_is_caught() {
+    each_fault_is_caught(oracle_runs());
+}
+
+#[test]
+fn every_fault_against_the_rules_is_caught() {
+    each_fault_is_caught(rule_runs());
+}
+
+/// A run that is too small for what its comparisons want among their inputs does not pass.
+#[test]
+fn what_is_not_drawn_is_seen() {
+    for run in rule_runs() {
+        let none = Plan { legends: 0, ..Plan::least(1) };
+        let compared = run.go(&none, None).expect("nothing is compared").compared;
+        assert!(!compared.missing().is_empty() && compared.missing().len() == compared.drawn.len(), "{}", run.name);
+        assert!(!run_all(vec![run], &none, "").0);
     }
 }
 
@@ -48,10 +67,8 @@ fn smallest<S: Subject>(subject: S, wrong: impl Fn(&S::Input) -> bool + Sync, in
 }
 
 #[test]
+#[cfg_attr(no_oracle, ignore = "the reference's text is absent")]
 fn the_smallest_input_is_found() {
-    if absent() {
-        return;
-    }
     let text = smallest(hex::Hex, |text| text.contains('F'), hex::random(1, 1000));
     assert_eq!(text, "\"F\"");
     let text = smallest(hex::Hex, |text| text.len() == 7 && text.ends_with('a'), hex::random(1, 1000));
@@ -64,10 +81,8 @@ fn the_smallest_input_is_found() {
 }
 
 #[test]
+#[cfg_attr(no_oracle, ignore = "the reference's text is absent")]
 fn the_smallest_painting_is_found() {
-    if absent() {
-        return;
-    }
     let wrong = |painting: &Painting<f32>| painting.raster.iter().any(|x| x.is_nan());
     let found = smallest(Paintings::default(), wrong, paintings::random(1, 1000));
     assert!(found.contains("raster: [NaN], nodata: None"), "{found}");
@@ -135,10 +150,8 @@ fn the_last_sample_is_the_one_before(painting: &mut Painting<f32>) {
 
 /// One rule of a painting changed on our side: each change is caught, and no change is none.
 #[test]
+#[cfg_attr(no_oracle, ignore = "the reference's text is absent")]
 fn a_changed_rule_of_painting_is_caught() {
-    if absent() {
-        return;
-    }
     let caught = |change: fn(&mut Painting<f32>)| {
         compare(&Changed(Paintings::<f32>::default(), change), &paintings::random(1, 4000), None).is_err()
     };
@@ -174,10 +187,8 @@ fn a_ramp_is_read_from_its_end(asked: &mut Asked) {
 
 /// The same for builders.
 #[test]
+#[cfg_attr(no_oracle, ignore = "the reference's text is absent")]
 fn a_changed_rule_of_building_is_caught() {
-    if absent() {
-        return;
-    }
     let caught = |kinds, change: fn(&mut Asked)| {
         compare(&Changed(builders::Builders, change), &builders::random(kinds, 1, 4000), None).is_err()
     };
@@ -187,4 +198,71 @@ fn a_changed_rule_of_building_is_caught() {
     assert!(caught(Kinds::Values, of_equal_keys_the_first_stays));
     assert!(caught(Kinds::ManualRanges, a_range_may_be_empty));
     assert!(caught(Kinds::EqualBands, a_ramp_is_read_from_its_end));
+}
+
+fn of_stored_keys_the_last_counts(input: &mut Use<f32>) {
+    input.stored.categories.reverse();
+}
+
+fn stored_keys_are_in_order(input: &mut Use<f32>) {
+    input.stored.categories.sort_by_key(|category| category.0);
+}
+
+fn another_band_counts(input: &mut Use<f32>) {
+    if input.stored.bands.len() < 64 {
+        input.stored.bands.push((-1e38, 1e38, 5));
+    }
+}
+
+fn another_key_counts(input: &mut Use<f32>) {
+    if input.stored.categories.len() < 256 {
+        let next = input.stored.record().categoric.keys[input.stored.categories.len()];
+        input.stored.categories.push((next, 5));
+    }
+}
+
+fn another_word_of_the_table_counts(input: &mut Use<f32>) {
+    if (1..513).contains(&input.stored.table.len()) {
+        input.stored.table.push(5);
+    }
+}
+
+fn the_output_may_be_longer(input: &mut Use<f32>) {
+    input.places = input.places.min(input.raster.len());
+}
+
+fn five_lanes_are_four(input: &mut Use<f32>) {
+    input.lanes = input.lanes.map(|lanes| if lanes == 5 { 4 } else { lanes });
+}
+
+fn scratch_may_be_shorter(input: &mut Use<f32>) {
+    input.spare = input.spare.max(16);
+}
+
+fn a_flag_of_2_is_1(input: &mut Use<f32>) {
+    input.given = input.given.min(1);
+}
+
+/// One rule changed on our side, against the rules.
+#[test]
+fn a_changed_rule_of_stored_records_is_caught() {
+    let caught = |change: fn(&mut Use<f32>)| {
+        compare(&Changed(Uses::<f32>::default(), change), &stored::random(1, 4000), None).is_err()
+    };
+    assert!(!caught(|_| ()));
+    assert!(caught(of_stored_keys_the_last_counts));
+    assert!(caught(another_band_counts));
+    assert!(caught(another_key_counts));
+    assert!(caught(another_word_of_the_table_counts));
+    assert!(caught(the_output_may_be_longer));
+    assert!(caught(five_lanes_are_four));
+    assert!(caught(scratch_may_be_shorter));
+    assert!(caught(a_flag_of_2_is_1));
+    // The first entry with a key counts, so a stable order changes nothing.
+    assert!(!caught(stored_keys_are_in_order));
+    let wholes =
+        |change: fn(&mut Stored)| compare(&Changed(Wholes, change), &stored::random_records(1, 4000), None).is_err();
+    assert!(!wholes(|_| ()));
+    assert!(wholes(|stored| stored.categories.truncate(stored.categories.len().saturating_sub(1))));
+    assert!(wholes(|stored| stored.bands.truncate(stored.bands.len().saturating_sub(1))));
 }

@@ -1,16 +1,8 @@
-//! Facts about the reference that other places lean on. Where the text is absent each says so and passes over.
+//! Facts about the reference that other places lean on. Where the text is absent each test is ignored.
 
 use crate::*;
 use std::collections::HashSet;
 use std::panic::catch_unwind;
-
-/// Whether there is something to test; says so where there is not.
-fn present() -> bool {
-    if !PRESENT {
-        eprintln!("passed over: the reference's text is not here (LEGEND_ORACLE_SRC)");
-    }
-    PRESENT
-}
 
 /// G of the examples: entry i is i, i, i, 255.
 fn grey() -> [u32; 256] {
@@ -22,10 +14,8 @@ const B: u32 = 0xff00_bb00;
 const CONFIG: Config = Config { nodata_color: 1, low: Some(2), high: Some(3), zero_is_nodata: false };
 
 #[test]
+#[cfg_attr(not(text), ignore = "the reference's text is absent")]
 fn palettes() {
-    if !present() {
-        return;
-    }
     let all: Vec<Vec<u32>> = (0..32).map(palette).collect();
     assert_eq!(palette_names().len(), 32);
     assert_eq!(all.iter().map(Vec::len).sum::<usize>(), 304);
@@ -35,10 +25,8 @@ fn palettes() {
 }
 
 #[test]
+#[cfg_attr(not(text), ignore = "the reference's text is absent")]
 fn presets_are_the_palettes_first() {
-    if !present() {
-        return;
-    }
     assert_eq!(preset_count(), 60);
     for number in 0..32 {
         let preset = Ramp::create(&Colors::Preset(number, false)).unwrap().entries();
@@ -49,10 +37,8 @@ fn presets_are_the_palettes_first() {
 }
 
 #[test]
+#[cfg_attr(not(text), ignore = "the reference's text is absent")]
 fn last_color_of_a_ramp() {
-    if !present() {
-        return;
-    }
     let transparent: Vec<usize> = (1..=64)
         .filter(|&count| {
             let made = Legend::equal_bands(count, &Colors::Preset(0, false), 0.0, 1.0, CONFIG).unwrap();
@@ -65,10 +51,8 @@ fn last_color_of_a_ramp() {
 }
 
 #[test]
+#[cfg_attr(not(text), ignore = "the reference's text is absent")]
 fn panics() {
-    if !present() {
-        return;
-    }
     for text in ["#0é000", "#€000", "#00€0"] {
         assert!(catch_unwind(|| hex(text)).is_err(), "{text}");
     }
@@ -82,19 +66,15 @@ fn panics() {
 }
 
 #[test]
+#[cfg_attr(not(text), ignore = "the reference's text is absent")]
 fn counts_wrap() {
-    if !present() {
-        return;
-    }
     let made = Legend::category_range(i64::MIN, i64::MAX, &Colors::List(vec![]), CONFIG).unwrap();
     assert_eq!(made.record(), Record::Categoric { categories: vec![], table: None });
 }
 
 #[test]
+#[cfg_attr(not(text), ignore = "the reference's text is absent")]
 fn refusals() {
-    if !present() {
-        return;
-    }
     let number = |answer: Answer<Legend>| answer.err().expect("a refusal").number();
     let list = |count: usize| Colors::List(vec![A; count]);
     assert_eq!(hex("").unwrap_err().number(), 1);
@@ -113,10 +93,8 @@ fn refusals() {
 
 /// The twelve examples of the rules: both paintings go through them, so that this interface is seen to reach each.
 #[test]
+#[cfg_attr(not(text), ignore = "the reference's text is absent")]
 fn examples() {
-    if !present() {
-        return;
-    }
     let g = Ramp::ready_made(&grey());
     let lane = |fraction: f32| {
         let answers = [4, 8, 16].map(|lanes| {
@@ -170,10 +148,8 @@ fn examples() {
 
 /// Points that the rules leave to the text.
 #[test]
+#[cfg_attr(not(text), ignore = "the reference's text is absent")]
 fn corners() {
-    if !present() {
-        return;
-    }
     // A linear record that starts above its end: lanes skip the test of start against end.
     let turned = Legend::linear_stored(&grey(), 1.00005, 1.0, CONFIG);
     assert_eq!(turned.paint(&[1.00008f32; 4], None), [grey()[0]; 4]);

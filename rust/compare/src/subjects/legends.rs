@@ -13,12 +13,13 @@ mod asking;
 mod shrinking;
 
 use super::DONE;
-use legend::ffi::{LegendBand, LegendBanded, LegendCategoric, LegendLinear, LegendRecord};
+use legend::ffi::{LegendBand, LegendBanded, LegendCategoric, LegendLinear, LegendRecord, LegendSettings};
 use legend::{Band, Color, Colors, Legend, Parts, Ramp, Refusal, Settings};
 use oracle::{Colors as From, Config, Record};
 use std::sync::OnceLock;
 
 pub use asking::{Kinds, ask};
+pub(crate) use samples::{FAR, nodata_of};
 pub(crate) use shrinking::{fewer, plainer_floats, smaller_asked};
 
 /// A legend that is asked for.
@@ -256,27 +257,32 @@ fn record(legend: &oracle::Legend, config: &Config) -> LegendRecord {
 }
 
 /// One NaN is as good as another.
-fn float_word(x: f32) -> u64 {
+pub(crate) fn float_word(x: f32) -> u64 {
     if x.is_nan() { f32::NAN.to_bits().into() } else { x.to_bits().into() }
 }
 
-fn color_word(color: &Color) -> u64 {
+pub(crate) fn color_word(color: &Color) -> u64 {
     color.word().into()
 }
 
-/// Every field of a record.
+/// Every field of a record: a field that is added to a struct has to be added here.
 fn record_words(record: &LegendRecord, words: &mut Vec<u64>) {
     let LegendRecord { kind, settings, linear, banded, categoric } = record;
     words.push((*kind).into());
-    words.extend([settings.nodata_color, settings.low_color, settings.high_color].iter().map(color_word));
-    words.extend([settings.has_low, settings.has_high, settings.zero_is_nodata].map(u64::from));
-    words.extend([linear.start, linear.end].map(float_word));
-    words.extend(linear.cmap.iter().map(color_word));
-    words.push(banded.count as u64);
-    words.extend(banded.bands.iter().flat_map(|b| [float_word(b.start), float_word(b.end), color_word(&b.color)]));
-    words.extend([categoric.count as u64, categoric.lookup_count as u64]);
-    words.extend(categoric.keys.map(|key| key as u64));
-    words.extend(categoric.colors.iter().chain(&categoric.lookup).map(color_word));
+    let LegendSettings { nodata_color, low_color, high_color, has_low, has_high, zero_is_nodata } = settings;
+    words.extend([nodata_color, low_color, high_color].map(color_word));
+    words.extend([*has_low, *has_high, *zero_is_nodata].map(u64::from));
+    let LegendLinear { start, end, cmap } = linear;
+    words.extend([*start, *end].map(float_word));
+    words.extend(cmap.iter().map(color_word));
+    let LegendBanded { bands, count } = banded;
+    words.push(*count as u64);
+    let band_words = |LegendBand { start, end, color }: &_| [float_word(*start), float_word(*end), color_word(color)];
+    words.extend(bands.iter().flat_map(band_words));
+    let LegendCategoric { keys, colors, count, lookup, lookup_count } = categoric;
+    words.extend([*count as u64, *lookup_count as u64]);
+    words.extend(keys.map(|key| key as u64));
+    words.extend(colors.iter().chain(lookup).map(color_word));
 }
 
 /// A result, or a refusal in its place, as words.

@@ -1,6 +1,6 @@
 //! Legends to ask for, at random: counts at the limits, bounds that are near to each other, and numbers of every kind.
 
-use super::samples::{float, near};
+use super::samples::{FAR, float, near};
 use super::{Asked, Entries, Job, is_empty};
 use crate::random::Random;
 use oracle::{Colors as From, Config};
@@ -174,7 +174,7 @@ impl Asking<'_> {
         Job::BandsAsGiven { bands: ranges.into_iter().map(|(start, end)| (start, end, self.word())).collect() }
     }
 
-    /// Keys that have a table, that just have none, negative ones, or ones at the limits.
+    /// Keys that have a table, that just have none, negative ones, ones at the limits, or near to one of them.
     fn key(&mut self, style: u64) -> i64 {
         let of = |random: &mut Random, from: i64, count: u64| from + random.below(count) as i64;
         match style {
@@ -182,18 +182,19 @@ impl Asking<'_> {
             1 => of(self.random, 0, 8),
             2 => of(self.random, 500, 14),
             3 => of(self.random, -300, 900),
-            4 => self.random.one_of(&[-16_777_216, 16_777_216, 16_777_215, 0, 5]) + of(self.random, 0, 2),
-            _ => match self.random.below(4) {
-                0 => self.random.one_of(&[i64::MIN, i64::MAX, -16_777_217, 16_777_217]),
-                _ => of(self.random, -16_777_216, 33_554_433),
+            4 => self.random.one_of(&[-FAR, FAR, FAR - 1, 0, 5]) + of(self.random, 0, 2),
+            5 => match self.random.below(4) {
+                0 => self.random.one_of(&[i64::MIN, i64::MAX, -FAR - 1, FAR + 1]),
+                _ => of(self.random, -FAR, 33_554_433),
             },
+            6 => of(self.random, FAR - 40, 41),
+            _ => of(self.random, -FAR, 41),
         }
     }
 
     fn style(&mut self) -> u64 {
-        let style = self.random.below(8);
         // Keys that are refused are of no use where the legend is to be used.
-        if self.most == usize::MAX { style.min(5) } else { style % 4 }
+        self.random.one_of(if self.most == usize::MAX { &[0, 1, 2, 3, 4, 5, 5, 5, 6, 7] } else { &[0, 1, 2, 3, 6, 7] })
     }
 
     fn values(&mut self) -> Job {
@@ -220,7 +221,7 @@ impl Asking<'_> {
             let (end, start) = self.bounds();
             return Job::StoredLinear { entries: self.entries(), start, end };
         }
-        let (count, style) = (self.count().min(256), self.random.below(6));
+        let (count, style) = (self.count().min(256), self.random.below(8));
         let mut categories: Vec<(i64, u32)> = vec![];
         for _ in 0..count {
             let key = self.key(style);

@@ -1,6 +1,6 @@
 //! Both paintings, over whole rasters. The buffers have guard words on either side, which are compared too.
 
-use super::samples::{Drawn, edges};
+use super::samples::{Drawn, edges, far_keys, nodata_of, raster_length};
 use super::{Asked, Kinds, ask, fewer, said, smaller_asked};
 use crate::engine::{Inputs, Subject};
 use crate::random::Random;
@@ -111,13 +111,35 @@ impl<T: Drawn> Subject for Paintings<T> {
         let plainer = (0..raster.len().min(16)).flat_map(plainer);
         rasters.chain(asked).chain(without).chain(narrower).chain(plainer).collect()
     }
-}
 
-/// Around every multiple of the lane counts, and a longer raster now and then.
-fn length(random: &mut Random) -> usize {
-    let lanes = random.one_of(&[4, 8, 16]);
-    let chunks = if random.once_in(16) { random.below(40) } else { random.below(6) };
-    (chunks * lanes + random.below(3)).saturating_sub(1) as usize
+    fn wanted(&self) -> &'static [&'static str] {
+        let all = &[
+            "a raster's length that is 2 mod 4",
+            "a raster's length from 255 to 257",
+            "a raster's length from 511 to 513",
+            "a nodata value that is in no sample",
+            "a key of a sample near 16,777,216",
+            "a key of a sample near -16,777,216",
+        ];
+        if T::FAR { all } else { &all[..4] }
+    }
+
+    fn has(&self, painting: &Painting<T>) -> u64 {
+        let Painting { asked, raster, nodata, .. } = painting;
+        let Ok(legend) = asked.ours() else { return 0 };
+        let keys: Vec<i64> = legend.categories().map(|category| category.0).collect();
+        let samples: Vec<i64> = raster.iter().filter_map(|&sample| legend::key(sample.into())).collect();
+        let far = if legend.table().is_none() { far_keys(&keys, &samples) } else { [false; 2] };
+        let facts = [
+            raster.len() % 4 == 2,
+            (255..=257).contains(&raster.len()),
+            (511..=513).contains(&raster.len()),
+            nodata.is_some_and(|nodata| !raster.contains(&nodata)),
+            far[0],
+            far[1],
+        ];
+        (0..).zip(facts).map(|(bit, fact)| u64::from(fact) << bit).sum()
+    }
 }
 
 /// Rasters at random, plainly and at 4, 8, 16 lanes in turn; many chunks lie inside the legend.
@@ -133,8 +155,8 @@ pub fn random<T: Drawn>(seed: u64, count: u64) -> Inputs<'static, Painting<T>> {
             }
             T::draw(random, &edges, inside)
         };
-        let raster: Vec<T> = (0..length(&mut Random::new(!seed, number))).map(sample).collect();
-        let nodata = (random.once_in(2) && !raster.is_empty()).then(|| random.one_of(&raster));
+        let raster: Vec<T> = (0..raster_length(&mut Random::new(!seed, number))).map(sample).collect();
+        let nodata = nodata_of(random, &raster, &edges);
         let lanes = [None, Some(Lanes::Four), Some(Lanes::Eight), Some(Lanes::Sixteen)][number as usize % 4];
         Painting { asked, lanes, raster, nodata }
     })

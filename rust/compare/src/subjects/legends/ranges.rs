@@ -1,5 +1,6 @@
 //! The whole range of a legend's values, and its list of colours.
 
+use super::samples::far_keys;
 use super::{Asked, Job, Refused, first_outside, float_word, said, smaller_asked};
 use crate::engine::Subject;
 use crate::subjects::{DONE, refusal_words};
@@ -48,5 +49,19 @@ impl Subject for Ranges {
 
     fn smaller(&self, asked: &Asked) -> Vec<Asked> {
         smaller_asked(asked)
+    }
+
+    fn wanted(&self) -> &'static [&'static str] {
+        &["keys near 16,777,216", "keys near -16,777,216"]
+    }
+
+    fn has(&self, asked: &Asked) -> u64 {
+        let Ok(legend) = asked.ours() else { return 0 };
+        if added(asked).is_some() {
+            return 0;
+        }
+        let keys: Vec<i64> = legend.categories().map(|category| category.0).collect();
+        let far = far_keys(&keys, &keys);
+        u64::from(far[0]) | u64::from(far[1]) << 1
     }
 }

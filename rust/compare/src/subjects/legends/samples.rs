@@ -57,8 +57,42 @@ pub fn near(random: &mut Random, x: f32) -> f32 {
     (0..steps.abs()).fold(x, |x, _| if steps < 0 { x.next_down() } else { x.next_up() })
 }
 
+/// How long a raster is: around every multiple of the lane counts, now and then around a block of 256 or two, or longer.
+pub fn raster_length(random: &mut Random) -> usize {
+    let lanes = random.one_of(&[4, 8, 16]);
+    let whole = match random.below(32) {
+        0 => random.one_of(&[256, 512]),
+        1 | 2 => random.below(40) * lanes,
+        _ => random.below(6) * lanes,
+    };
+    (whole + random.below(5)).saturating_sub(2) as usize
+}
+
+/// The limit of a builder's keys, either way.
+pub const FAR: i64 = 16_777_216;
+
+/// Whether some sample's key is a legend's and near to the limit: above, and below.
+pub fn far_keys(keys: &[i64], samples: &[i64]) -> [bool; 2] {
+    [FAR - 300..=FAR, -FAR..=300 - FAR].map(|near| samples.iter().any(|key| near.contains(key) && keys.contains(key)))
+}
+
+/// A nodata value half of the time: one of the samples, or one that is in none.
+pub fn nodata_of<T: Drawn>(random: &mut Random, samples: &[T], edges: &[f32]) -> Option<T> {
+    if random.once_in(2) {
+        return None;
+    }
+    if samples.is_empty() || random.once_in(3) {
+        let other = T::draw(random, edges, false);
+        return Some(other).filter(|other| !samples.contains(other));
+    }
+    Some(random.one_of(samples))
+}
+
 /// A type of sample on both sides.
-pub trait Drawn: legend::Sample + oracle::Sample + Debug + PartialEq + Send + Sync + 'static {
+pub trait Drawn: legend::Sample + oracle::Sample + Debug + PartialEq + Into<f32> + Send + Sync + 'static {
+    /// Whether its samples reach the limits of a builder's keys.
+    const FAR: bool;
+
     /// One at random: near to an edge of the legend, between its edges, or any.
     fn draw(random: &mut Random, edges: &[f32], inside: bool) -> Self;
 
@@ -67,6 +101,8 @@ pub trait Drawn: legend::Sample + oracle::Sample + Debug + PartialEq + Send + Sy
 }
 
 impl Drawn for f32 {
+    const FAR: bool = true;
+
     fn draw(random: &mut Random, edges: &[f32], inside: bool) -> f32 {
         if edges.is_empty() || !inside && random.once_in(6) {
             return float(random);
@@ -89,6 +125,8 @@ impl Drawn for f32 {
 macro_rules! whole {
     ($type:ty) => {
         impl Drawn for $type {
+            const FAR: bool = false;
+
             fn draw(random: &mut Random, edges: &[f32], inside: bool) -> $type {
                 let drawn = f32::draw(random, edges, inside).round();
                 let fits = drawn >= <$type>::MIN.into() && drawn <= <$type>::MAX.into();

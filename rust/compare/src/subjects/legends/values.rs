@@ -1,6 +1,6 @@
 //! The colour of a sample by itself.
 
-use super::samples::{Drawn, edges};
+use super::samples::{Drawn, edges, far_keys, nodata_of};
 use super::{Asked, Kinds, ask, fewer, said, smaller_asked};
 use crate::engine::{Inputs, Subject};
 use crate::random::Random;
@@ -54,6 +54,25 @@ impl<T: Drawn> Subject for Values<T> {
         let single = single.into_iter().map(|value| Asking { values: vec![value], ..asking.clone() });
         lists.chain(asked).chain(without).chain(single).collect()
     }
+
+    fn wanted(&self) -> &'static [&'static str] {
+        let all = &[
+            "a nodata value that is in no sample",
+            "a key of a sample near 16,777,216",
+            "a key of a sample near -16,777,216",
+        ];
+        if T::FAR { all } else { &all[..1] }
+    }
+
+    fn has(&self, asking: &Asking<T>) -> u64 {
+        let Asking { asked, values, nodata } = asking;
+        let Ok(legend) = asked.ours() else { return 0 };
+        let keys: Vec<i64> = legend.categories().map(|category| category.0).collect();
+        let samples: Vec<i64> = values.iter().filter_map(|&sample| legend::key(sample.into())).collect();
+        let far = far_keys(&keys, &samples);
+        let facts = [nodata.is_some_and(|nodata| !values.contains(&nodata)), far[0], far[1]];
+        (0..).zip(facts).map(|(bit, fact)| u64::from(fact) << bit).sum()
+    }
 }
 
 /// Legends at random, 8 samples each, and a nodata value that may be among them.
@@ -63,7 +82,7 @@ pub fn random<T: Drawn>(seed: u64, count: u64) -> Inputs<'static, Asking<T>> {
         let asked = ask(random, Kinds::All);
         let edges = edges(&asked);
         let values: Vec<T> = (0..8).map(|_| T::draw(random, &edges, false)).collect();
-        let nodata = random.once_in(2).then(|| random.one_of(&values));
+        let nodata = nodata_of(random, &values, &edges);
         Asking { asked, values, nodata }
     })
 }
