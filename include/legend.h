@@ -2,9 +2,21 @@
  *
  * A colour is one word: red + 256 * green + 65536 * blue + 16777216 * alpha. TRANSPARENT is 0.
  *
- * Every call ends, for every argument of its types, and keeps nothing: no memory, no state between calls. What a caller
- * owes is C's own: a pointer is not NULL, is aligned, and points to as many elements as the count beside it says (256
- * where the parameter is written so). Where a count is 0, nothing is read or written through its pointer.
+ * Every call ends, for every argument of its types, and keeps nothing: it allocates no memory and has no state between
+ * calls. So calls may run on any threads at once, where none writes what another is given.
+ *
+ * What a caller owes is C's own. A pointer is aligned and points to as many elements as the count beside it says, or
+ * as its brackets say. What a call writes to, an output or scratch, overlaps nothing else that the call is given: no
+ * other buffer, and no part of the legend. A pointer is not NULL, unless the count beside it is 0: then nothing is read
+ * or written through it. That the calls keep within the counts is proved; that NULL beside 0 does no harm is not, but
+ * c/calls.c runs every call with a count so.
+ *
+ * The default floating-point environment is assumed: rounding to nearest, and subnormal numbers as they are. Another
+ * rounding direction changes colours, and flushing subnormal numbers to zero may.
+ *
+ * A call takes less than 40,000 bytes of stack, with what C puts there for its arguments and its result. The most that
+ * was seen is 36,871, in legend_create_categoric_for_value_list, 7,000 of them for the result; in a painting 9,887
+ * (c/stack.c measures each call).
  */
 #ifndef LEGEND_H
 #define LEGEND_H
@@ -38,7 +50,8 @@ enum {
     LEGEND_SCRATCH_TOO_SHORT = 15,
     LEGEND_COUNT_ABOVE_CAPACITY = 16,
     LEGEND_KEY_OUT_OF_RANGE = 17, /* index: the first such key, from 0 */
-    /* This interface's own, before any of the others: flags first, then the kind. */
+    /* This interface's own, before any of the others: the flags of settings or a legend, then the kind, then the flag of
+     * a nodata value. */
     LEGEND_BAD_FLAG = 100, /* a flag that is neither 0 nor 1 */
     LEGEND_BAD_KIND = 101  /* a kind that is none of 0, 1, 2 */
 };
@@ -90,8 +103,8 @@ LegendRamp legend_ramp_from_palette(size_t number);
  * NaN. */
 uint32_t legend_get_color(const uint32_t ramp[256], float fraction);
 
-/* The same by the rule of lane painting: entry floor(fraction * 255 + 0.5), at most 255. The two differ at one fraction,
- * 65,793 / 2^25: entry 0 there, and entry 1 here. */
+/* The same by the rule of lane painting: entry floor(fraction * 255 + 0.5), the sum rounded to float, at most 255. The
+ * two differ at one fraction, 65,793 / 2^25: entry 0 there, and entry 1 here. */
 uint32_t legend_get_color_simd(const uint32_t ramp[256], float fraction);
 
 /* ---- Keys ---- */
@@ -108,7 +121,8 @@ LegendKey legend_to_i64(float sample);
 /* ---- Legends ---- */
 
 /* The settings of a legend. The last three are flags, 0 or 1: the low colour counts where has_low is 1, the high colour
- * where has_high is 1, and where zero_is_nodata is 1 a sample of 0 gets the nodata colour. All 0 are the plain settings. */
+ * where has_high is 1, and where zero_is_nodata is 1 a sample of 0, or of negative 0, gets the nodata colour. A categoric
+ * legend has neither a low nor a high colour, whatever is set. All 0 are the plain settings. */
 typedef struct LegendSettings {
     uint32_t nodata_color;
     uint32_t low_color;
@@ -138,8 +152,9 @@ typedef struct LegendBanded {
     size_t count;
 } LegendBanded;
 
-/* The first `count` keys, ascending, with their colours, and the table's first `lookup_count` words: none where there is
- * no table. */
+/* The first `count` keys with their colours, and the table's first `lookup_count` words: none where there is no table. A
+ * builder makes the keys ascending, each once. A record is read as it is stored: by its table where it has one, else by
+ * the first of its keys that is the sample's. */
 typedef struct LegendCategoric {
     int64_t keys[256];
     uint32_t colors[256];
@@ -155,7 +170,7 @@ enum {
 };
 
 /* A legend: its kind, its settings, and three records, of which that of the kind alone counts. A caller may fill one in
- * by hand; a count above its capacity is refused (16) where the legend is used. */
+ * by hand; a count of that record above its capacity is refused (16) where the legend is used. */
 typedef struct LegendRecord {
     uint32_t kind;
     LegendSettings settings;
@@ -170,12 +185,13 @@ typedef struct LegendMade {
     LegendRecord legend;
 } LegendMade;
 
-/* The first `count` ranges, each from its start up to its end. */
+/* A range of values: from its start up to, but not at, its end. */
 typedef struct LegendRange {
     float start;
     float end;
 } LegendRange;
 
+/* The first `count` ranges. */
 typedef struct LegendRanges {
     LegendRange ranges[64];
     size_t count;
@@ -184,26 +200,29 @@ typedef struct LegendRanges {
 /* ---- Builders ----
  *
  * Each is refused by 100 for a flag of its settings; then as its line says. Colours come as a list, or as a ramp by the
- * names that say so. The settings of the legend made are those given, with the colour 0 where a flag is 0. */
+ * names that say so: a linear legend has the ramp itself, another kind its colours at 0, s, s + s, .. with s = 1 / (count
+ * - 1), summed in float, so that the last may be beyond 1 and TRANSPARENT. The settings of the legend made are those
+ * given, with a low or high colour of 0 where its flag is 0. */
 
 /* Linear, from start to end. From a list, refused: 4, 5, 7. From a ramp: 7. */
 LegendMade legend_create_linear(const uint32_t *colors, size_t colors_count, float start, float end,
                                 LegendSettings settings);
 LegendMade legend_create_linear_from_ramp(const uint32_t ramp[256], float start, float end, LegendSettings settings);
 
-/* `count` bands of equal width. Refused: 7, 8; from a list 9 too. */
+/* `count` bands of equal width, each from where the one before ends: summed in float, so that the last may end beside
+ * the end given. Refused: 7, 8; from a list 9 too. */
 LegendMade legend_create_banded(size_t count, const uint32_t *colors, size_t colors_count, float start, float end,
                                 LegendSettings settings);
 LegendMade legend_create_banded_from_ramp(size_t count, const uint32_t ramp[256], float start, float end,
                                           LegendSettings settings);
 
-/* A band for each range. Refused: 8, 10; from a list 9 too. */
+/* A band for each range. Refused: 8, 10; from a list 9 too, last. */
 LegendMade legend_create_banded_manual_ranges(const uint32_t *colors, size_t colors_count, LegendRanges ranges,
                                               LegendSettings settings);
 LegendMade legend_create_banded_manual_ranges_from_ramp(const uint32_t ramp[256], LegendRanges ranges,
                                                         LegendSettings settings);
 
-/* These bands, in their order. Refused: 8. */
+/* These bands, in their order; they may overlap. Refused: 8. */
 LegendMade legend_create_banded_as_given(const LegendBand *bands, size_t bands_count, LegendSettings settings);
 
 /* A category for each value; of equal values the last one's colour stays. Refused: 11, 17; from a list 9 too, before 17. */
@@ -212,7 +231,8 @@ LegendMade legend_create_categoric_for_value_list(const uint32_t *colors, size_t
 LegendMade legend_create_categoric_for_value_list_from_ramp(const uint32_t ramp[256], const int64_t *values,
                                                             size_t values_count, LegendSettings settings);
 
-/* A category for each whole number from start to end, both included. Refused: 12, 11, 17; from a list 9 too, before 17. */
+/* A category for each whole number from start to end, both included; none where the end is below the start. Refused: 12,
+ * 11, 17; from a list 9 too, before 17. */
 LegendMade legend_create_categoric_for_value_range(const uint32_t *colors, size_t colors_count, int64_t start,
                                                    int64_t end, LegendSettings settings);
 LegendMade legend_create_categoric_for_value_range_from_ramp(const uint32_t ramp[256], int64_t start, int64_t end,
@@ -224,8 +244,8 @@ LegendMade legend_create_categoric_for_value_range_from_ramp(const uint32_t ramp
  * by 16 for a stored count; then as its line says. `nodata` counts where `nodata_given` is 1.
  *
  * Each takes a pointer to the legend. For painting and the colour of a sample its ramp, its keys with their colours and
- * its table are lent to the library's own calls, the legend_lent_ ones below, and are not copied; the legend_record_ ones
- * are handed a copy. */
+ * its table are lent to the library's own calls, the legend_lent_ ones below, and are not copied; its bands are. The
+ * legend_record_ ones are handed a copy of the whole. */
 
 /* What is neither an array of a legend nor its bands. */
 typedef struct LegendHead {
@@ -282,8 +302,8 @@ static inline LegendColor legend_color_for_i16(const LegendRecord *legend, int16
     return legend_lent_color_for_i16(LEGEND_LENT(legend), value, nodata_given, nodata);
 }
 
-/* Plain painting: out[i] is the colour of src[i]. Beside a refusal out is as it was. Refused: 13. src and out do not
- * overlap. */
+/* Plain painting: out[i] is the colour of src[i]. Beside a refusal out is as it was. Refused: 13. out overlaps neither
+ * src nor the legend. */
 LegendAnswer legend_lent_paint_f32(
     LegendHead head, LegendBanded banded, const uint32_t cmap[256], const int64_t keys[256],
     const uint32_t colors[256], const uint32_t lookup[513], const float *src,
@@ -312,9 +332,11 @@ static inline LegendAnswer legend_paint_i16(const LegendRecord *legend, const in
     return legend_lent_paint_i16(LEGEND_LENT(legend), src, src_length, nodata_given, nodata, out, out_length);
 }
 
-/* Painting in 4, 8 or 16 lanes: whole chunks by the rule of lanes, what is left of the raster plainly. Scratch needs 16
- * words; its first `lanes` words then hold the colours of the last whole chunk, where there was one. Beside a refusal
- * out and scratch are as they were. Refused: 14, 15, 13. src, out and scratch do not overlap. */
+/* Painting in 4, 8 or 16 lanes: whole chunks by the rule of lanes, what is left of the raster plainly. A categoric legend
+ * without a table is painted plainly. Scratch has 16 words or more. After a painting its first `lanes` words hold the
+ * colours of the last whole chunk; the others are as they were, and so are all where there was no whole chunk, or where a
+ * categoric legend has no table. Beside a refusal out and scratch are as they were. Refused: 14, 15, 13. out and scratch
+ * overlap neither each other, nor src, nor the legend. */
 LegendAnswer legend_lent_paint_lanes_f32(
     LegendHead head, LegendBanded banded, const uint32_t cmap[256], const int64_t keys[256],
     const uint32_t colors[256], const uint32_t lookup[513], size_t lanes,
@@ -369,7 +391,7 @@ static inline LegendValueRange legend_total_value_range(const LegendRecord *lege
     return legend_record_total_value_range(*legend);
 }
 
-/* A legend's 256 colours from its lowest to its highest value, all 0 beside a refusal. */
+/* A legend's 256 colours from its lowest to its highest value, as painted plainly, all 0 beside a refusal. */
 typedef struct LegendColorList {
     LegendAnswer answer;
     uint32_t colors[256];

@@ -19,7 +19,7 @@ pub struct LegendAnswer {
 #[derive(Debug, Clone, Copy, PartialEq, Eq)]
 #[repr(C)]
 pub struct LegendColor {
-    /// Refused: 1, 2, 3.
+    /// Refused: of text 1, 2, 3; of a sample 16, [`BAD_FLAG`], [`BAD_KIND`].
     pub answer: LegendAnswer,
     /// The colour.
     pub color: Color,
@@ -57,8 +57,8 @@ pub struct LegendKey {
     pub whole: u32,
 }
 
-/// The settings of a legend. `low_color` counts only where `has_low` is 1, and `high_color` where `has_high` is. The
-/// last three are flags: another number than 0 and 1 is answered with [`BAD_FLAG`].
+/// The settings of a legend. `low_color` counts only where `has_low` is 1, and `high_color` where `has_high` is, and
+/// neither in a categoric legend. The last three are flags: another number than 0 and 1 is answered with [`BAD_FLAG`].
 #[derive(Debug, Clone, Copy, PartialEq, Eq)]
 #[repr(C)]
 pub struct LegendSettings {
@@ -104,14 +104,14 @@ pub struct LegendBand {
 #[derive(Debug, Clone, Copy, PartialEq)]
 #[repr(C)]
 pub struct LegendBanded {
-    /// The bands, blank ones from `count` on.
+    /// The bands. Those from `count` on do not count; a builder leaves blank ones there.
     pub bands: [LegendBand; 64],
     /// How many there are.
     pub count: usize,
 }
 
 /// The categories of a legend: the first `count` keys with their colours, and the first `lookup_count` words of a
-/// table.
+/// table. It is read by the table where there is one, else by the first of the keys that is the sample's.
 #[derive(Debug, Clone, Copy, PartialEq, Eq)]
 #[repr(C)]
 pub struct LegendCategoric {
@@ -165,7 +165,7 @@ pub struct LegendHead {
 #[derive(Debug, Clone, Copy, PartialEq)]
 #[repr(C)]
 pub struct LegendMade {
-    /// Refused: as the table says for each builder.
+    /// Refused: [`BAD_FLAG`], and as the table says for each builder.
     pub answer: LegendAnswer,
     /// The legend.
     pub legend: LegendRecord,
@@ -195,7 +195,7 @@ pub struct LegendRanges {
 #[derive(Debug, Clone, Copy, PartialEq)]
 #[repr(C)]
 pub struct LegendValueRange {
-    /// Refused: 16, 17.
+    /// Refused: 16, 17, [`BAD_FLAG`], [`BAD_KIND`].
     pub answer: LegendAnswer,
     /// Where it starts.
     pub start: f32,
@@ -207,7 +207,7 @@ pub struct LegendValueRange {
 #[derive(Debug, Clone, Copy, PartialEq, Eq)]
 #[repr(C)]
 pub struct LegendColorList {
-    /// Refused: 16, 17.
+    /// Refused: 16, 17, [`BAD_FLAG`], [`BAD_KIND`].
     pub answer: LegendAnswer,
     /// The colours.
     pub colors: [Color; 256],

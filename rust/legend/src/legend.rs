@@ -12,7 +12,8 @@ pub type Band = LegendBand;
 pub enum Colors<'a> {
     /// A list: spread over a ramp for a linear legend, else a colour for each band or category.
     List(&'a [Color]),
-    /// A ramp: its entries for a linear legend, else looked up at equal distances.
+    /// A ramp: its entries for a linear legend, else looked up at 0, s, s + s, .. with s = 1 / (count - 1). These are
+    /// summed in `f32`, so that the last may be beyond 1, where the colour is [`Color::TRANSPARENT`].
     Ramp(&'a Ramp),
 }
 
@@ -111,8 +112,8 @@ pub struct Legend(LegendRecord);
 
 /// Making legends.
 impl Legend {
-    /// A linear legend: the lowest value has the ramp's first colour, the highest its last. A list is spread over a
-    /// ramp.
+    /// A linear legend: the lowest value has the ramp's first colour, the highest its last, unless it is the lowest too.
+    /// A list is spread over a ramp.
     ///
     /// Refused: a list of fewer than 2 or more than 256 colours, then a start above the end.
     ///
@@ -136,7 +137,8 @@ impl Legend {
         })
     }
 
-    /// `count` bands of equal width, 64 at most.
+    /// `count` bands of equal width, 64 at most, each from where the one before ends. The widths are summed in `f32`, so
+    /// that the last may end beside the range's end.
     ///
     /// Refused: a start above the end, then more than 64 bands, then a list that has not `count` colours.
     ///
@@ -184,7 +186,11 @@ impl Legend {
         })
     }
 
-    /// Bands as they are given, 64 at most, in their order: they may overlap, and a later one wins in lanes.
+    /// Bands as they are given, 64 at most, in their order. They may overlap: sample by sample the first that holds a
+    /// sample gives its colour. In lanes each overwrites those before it, until every sample of the chunk lies in some
+    /// band; later bands are then not looked at.
+    ///
+    /// Refused: more than 64 bands.
     ///
     /// ```
     /// use legend::{Band, Color, Legend, Refusal, Settings};
@@ -251,8 +257,8 @@ impl Legend {
         })
     }
 
-    /// A legend of a record that no builder made, read as it is stored. A count above what the record can hold is
-    /// refused by every use.
+    /// A legend of a record that no builder made, read as it is stored: of equal keys the first one counts, and words
+    /// beyond a count do not. A count above what the record can hold is refused by every use.
     ///
     /// ```
     /// use legend::{Legend, Parts, Refusal, Settings, ffi::LegendBanded};
@@ -299,9 +305,15 @@ impl Legend {
         Refusal::unless(T::paint(&self.0, raster, nodata, out), ())
     }
 
-    /// Paints whole chunks of samples by the rule of lanes, and the rest sample by sample. The rules differ at few
-    /// samples. Afterwards the first places of `scratch`, which has 16 or more, hold the last whole chunk's colours.
-    /// Where it is refused `out` and `scratch` are as they were.
+    /// Paints whole chunks of samples by the rule of lanes, and the rest sample by sample; a categoric legend without a
+    /// table all sample by sample. `scratch` has 16 places or more. Afterwards its first places, as many as there are
+    /// lanes, hold the last whole chunk's colours; the others are as they were, and so are all where there was no whole
+    /// chunk, or where a categoric legend has no table. Where it is refused `out` and `scratch` are as they were.
+    ///
+    /// The rules give the same colours for categories. For a linear legend whose start is not above its end they differ
+    /// at one fraction, that of [`Ramp::lane_color`]. For bands they give the same where bounds are finite, each band
+    /// starts below its end and not below the end of the one before, and the first and the last are 1e-4 wide or more;
+    /// other bands may have other colours in lanes.
     ///
     /// ```
     /// use legend::{Color, Lanes, Legend, Palette, Ramp, Settings};

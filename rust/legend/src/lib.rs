@@ -4,7 +4,10 @@
 //! [`Ramp`] of 256 entries, and paints rasters of `f32`, `u8` or `i16` into lent buffers, sample by sample or in lanes.
 //! A [`Color`] is read from text or taken from a [`Palette`]. What a call refuses is a [`Refusal`], with the number of
 //! the table of refusals and an index where that names one; lent buffers are then as they were. Nothing here panics on
-//! an argument, and nothing is allocated.
+//! an argument, and no call allocates. Calls may run on any threads at once: the library has no state.
+//!
+//! The default floating-point environment is assumed, as everywhere in Rust. A call takes less than 40,000 bytes of stack
+//! below the crate's own functions, which hold a record of 6,984 bytes where they make one.
 //!
 //! ```
 //! use legend::{Color, Legend, Palette, Ramp, Refusal, Settings};

@@ -1,6 +1,6 @@
 use crate::{Color, Refusal, ffi};
 
-/// A visible colour list of the reference, in its order.
+/// A list of colours of the reference's own, in its order.
 ///
 /// ```
 /// use legend::Palette;

@@ -52,8 +52,8 @@ impl Ramp {
         ffi::get_color(&self.0, fraction)
     }
 
-    /// The same by the rule of lane painting: entry floor(fraction × 255 + 0.5), at most 255. The two differ at few
-    /// fractions.
+    /// The same by the rule of lane painting: entry floor(fraction × 255 + 0.5), the sum rounded to `f32`, at most 255.
+    /// The two differ at one fraction, 65,793 / 2^25.
     ///
     /// ```
     /// use legend::{Color, Ramp};

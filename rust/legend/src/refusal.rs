@@ -26,14 +26,14 @@ pub enum Refusal {
     TooManyBands,
     /// A list has not as many colours as there are bands or categories.
     ColorCountDiffers,
-    /// A band starts at its end or above it.
+    /// A range starts at its end or above it.
     EmptyRange {
         /// The first such range, counted from 0.
         range: usize,
     },
     /// More than 256 categories.
     TooManyCategories,
-    /// A range of keys whose length is no `i64`.
+    /// A range of keys whose end - start, or that and 1, is no `i64`.
     RangeTooWide,
     /// An output has not as many places as the raster has samples.
     OutputLengthDiffers,

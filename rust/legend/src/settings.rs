@@ -12,9 +12,11 @@ use crate::ffi::LegendSettings;
 pub struct Settings {
     /// The colour of NaN, of the nodata value, and of what else the legend says nothing of.
     pub nodata_color: Color,
-    /// The colour below the legend. `None`: a linear legend's first, the first band's, or nodata for categories.
+    /// The colour below the legend. `None`: a linear legend's first, the first band's, or nodata where there
+    /// are no bands. Categories have none, whatever this is.
     pub low_color: Option<Color>,
-    /// The colour above the legend. `None`: a linear legend's last, the last band's, or nodata for categories.
+    /// The colour above the legend. `None`: a linear legend's last, the last band's, or nodata where there
+    /// are no bands. Categories have none, whatever this is.
     pub high_color: Option<Color>,
     /// Whether samples that equal 0 are nodata, negative zero too.
     pub zero_is_nodata: bool,

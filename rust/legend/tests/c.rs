@@ -126,6 +126,17 @@ fn header_archive_and_crate_have_the_same_calls() {
     assert_eq!(declared(&crate_source), exported);
 }
 
+/// Nothing that can be written is in the archive, and it calls nothing but copying and filling: it has no state, and
+/// allocates nothing.
+#[test]
+fn the_archive_has_no_state() {
+    let symbols = run(Command::new("nm").arg(ARCHIVE));
+    let kinds: BTreeSet<&str> = symbols.lines().filter_map(|line| line.split_whitespace().rev().nth(1)).collect();
+    assert_eq!(kinds, BTreeSet::from(["T", "U", "r", "t"]));
+    let called = words_after(&symbols, " U ");
+    assert!(called.iter().all(|name| ["memcpy", "memmove", "memset"].contains(&name.as_str())), "{called:?}");
+}
+
 #[test]
 fn refusals_have_the_headers_numbers() {
     use legend::Kind;

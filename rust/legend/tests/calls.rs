@@ -86,13 +86,14 @@ fn reordered(header: &str, of: &Struct, fields: &[String]) -> String {
     format!("{}{body}\n{}", &header[..of.place.start], &header[of.place.end..])
 }
 
-/// Headers in which two fields of a struct have changed places: each two of one type, and where there are none the first
-/// and the last.
+/// Headers in which two fields of a struct have changed places: each with the next of its type, and in a struct whose
+/// types all differ the first with the last.
 fn fields_swapped(header: &str) -> Vec<(String, String)> {
     let mut all = vec![];
     for of in structs(header) {
-        let kind = |at: usize| parted(&of.fields[at]).1;
-        let mut swaps: Vec<_> = pairs(of.fields.len()).filter(|&(one, other)| kind(one) == kind(other)).collect();
+        let kinds: Vec<String> = of.fields.iter().map(|field| parted(field).1).collect();
+        let next = |one: usize| (one + 1..kinds.len()).find(|&other| kinds[one] == kinds[other]);
+        let mut swaps: Vec<_> = (0..kinds.len()).filter_map(|one| Some((one, next(one)?))).collect();
         if swaps.is_empty() {
             swaps.push((0, of.fields.len() - 1));
         }
@@ -113,7 +114,7 @@ fn two_fields_that_change_places_are_seen() {
     let all = fields_swapped(&header);
     let of_each =
         structs(&header).iter().all(|of| all.iter().any(|(name, _)| name.starts_with(&format!("{}-", of.name))));
-    assert!(of_each && all.len() >= 32, "{} headers are too few", all.len());
+    assert!(of_each && all.len() >= 20, "{} headers are too few", all.len());
     let (left, unseen) = (Mutex::new(all), Mutex::new(vec![]));
     let next = || left.lock().expect("no thread panicked").pop();
     let work = || {
