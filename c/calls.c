@@ -1,8 +1,9 @@
 /* Every call of the header, with arguments and fields that all differ, and what docs/RULES.md says that each answers. So
  * two fields, or two parameters of one type, that stand the other way round in the library are seen.
  *
- * Each call's name is printed when it is called: a test compares them with the names in the header. What is not as
- * expected is printed to stderr, and the program then ends with 1. */
+ * Each call's name is printed when it is called, and a line of its own where it is given NULL beside each length of 0: a
+ * test compares them with the names in the header. What is not as expected is printed to stderr, and the program then
+ * ends with 1. */
 #include <math.h>
 #include <stdio.h>
 #include <string.h>
@@ -26,6 +27,9 @@ static void called(const char *name) {
 
 /* The call with this name. */
 #define CALL(name) (called(#name), name)
+
+/* The same, given NULL beside each length, which is 0. */
+#define CALL_WITH_NULL(name) (called("NULL: " #name), name)
 
 /* ---- Values ---- */
 
@@ -104,7 +108,7 @@ static void colors_ramps_keys(void) {
     const LegendColor third = hex("#0102G304", 9);
     EXPECT(is_answer(third.answer, LEGEND_NOT_HEX_BYTE, 1, 2) && third.color == 0);
     EXPECT(is_refused(hex("01020304", 7).answer, LEGEND_NOT_HEX_COLOR));
-    EXPECT(is_refused(hex(NULL, 0).answer, LEGEND_EMPTY_TEXT));
+    EXPECT(is_refused(CALL_WITH_NULL(legend_hex)(NULL, 0).answer, LEGEND_EMPTY_TEXT));
 
     const LegendPalette accent = CALL(legend_palette)(27);
     EXPECT(is_done(accent.answer) && accent.count == 8);
@@ -119,7 +123,7 @@ static void colors_ramps_keys(void) {
         EXPECT(spread.colors[i] == i * 0x01010101u);
     }
     EXPECT(is_refused(CALL(legend_ramp_from_list)(ends, 1).answer, LEGEND_TOO_FEW_COLORS));
-    EXPECT(is_refused(CALL(legend_ramp_from_list)(NULL, 0).answer, LEGEND_TOO_FEW_COLORS));
+    EXPECT(is_refused(CALL_WITH_NULL(legend_ramp_from_list)(NULL, 0).answer, LEGEND_TOO_FEW_COLORS));
     const LegendRamp of_accent = CALL(legend_ramp_from_palette)(27);
     EXPECT(is_done(of_accent.answer));
     EXPECT(of_accent.colors[0] == accent.colors[0] && of_accent.colors[255] == accent.colors[7]);
@@ -194,7 +198,7 @@ static void linear_builders(LegendSettings settings) {
     EXPECT(is_made(&made, LEGEND_LINEAR, settings) && is_linear(&made, 10.0f, 20.0f, A, B));
     made = CALL(legend_create_linear)(THREE, 2, 20.0f, 10.0f, settings);
     EXPECT(is_not_made(&made, LEGEND_START_ABOVE_END, 0, 0));
-    made = CALL(legend_create_linear)(NULL, 0, 10.0f, 20.0f, settings);
+    made = CALL_WITH_NULL(legend_create_linear)(NULL, 0, 10.0f, 20.0f, settings);
     EXPECT(is_not_made(&made, LEGEND_TOO_FEW_COLORS, 0, 0));
 
     made = CALL(legend_create_linear_from_ramp)(ramp(), 10.0f, 20.0f, settings);
@@ -212,7 +216,7 @@ static void banded_builders(LegendSettings settings) {
     EXPECT(is_not_made(&made, LEGEND_TOO_MANY_BANDS, 0, 0));
     made = CALL(legend_create_banded)(3, MANY_COLORS, 65, 10.0f, 20.0f, settings);
     EXPECT(is_not_made(&made, LEGEND_COLOR_COUNT_DIFFERS, 0, 0));
-    made = CALL(legend_create_banded)(0, NULL, 0, 10.0f, 20.0f, settings);
+    made = CALL_WITH_NULL(legend_create_banded)(0, NULL, 0, 10.0f, 20.0f, settings);
     EXPECT(is_made(&made, LEGEND_BANDED, settings) && made.legend.banded.count == 0);
 
     made = CALL(legend_create_banded_from_ramp)(3, ramp(), 10.0f, 16.0f, settings);
@@ -230,7 +234,7 @@ static void banded_builders(LegendSettings settings) {
     made = CALL(legend_create_banded_manual_ranges)(THREE, 3, two_ranges(), settings);
     EXPECT(is_not_made(&made, LEGEND_COLOR_COUNT_DIFFERS, 0, 0));
     ranges.count = 0;
-    made = CALL(legend_create_banded_manual_ranges)(NULL, 0, ranges, settings);
+    made = CALL_WITH_NULL(legend_create_banded_manual_ranges)(NULL, 0, ranges, settings);
     EXPECT(is_made(&made, LEGEND_BANDED, settings) && made.legend.banded.count == 0);
 
     made = CALL(legend_create_banded_manual_ranges_from_ramp)(ramp(), two_ranges(), settings);
@@ -248,7 +252,7 @@ static void banded_builders(LegendSettings settings) {
     EXPECT(is_made(&made, LEGEND_BANDED, settings) && made.legend.banded.count == 2);
     EXPECT(is_band(&made, 0, 30.0f, 34.0f, A) && is_band(&made, 1, 20.0f, 24.0f, B));
     EXPECT(CALL(legend_color_for_f32)(&made.legend, 22.0f, 0, 0.0f).color == B);
-    made = CALL(legend_create_banded_as_given)(NULL, 0, settings);
+    made = CALL_WITH_NULL(legend_create_banded_as_given)(NULL, 0, settings);
     EXPECT(is_made(&made, LEGEND_BANDED, settings) && made.legend.banded.count == 0);
 }
 
@@ -266,19 +270,19 @@ static void categoric_builders(LegendSettings settings) {
     const int64_t far[2] = {1, 16777217};
     made = CALL(legend_create_categoric_for_value_list)(THREE, 2, far, 2, settings);
     EXPECT(is_not_made(&made, LEGEND_KEY_OUT_OF_RANGE, 1, 1));
-    made = CALL(legend_create_categoric_for_value_list)(NULL, 0, NULL, 0, settings);
+    made = CALL_WITH_NULL(legend_create_categoric_for_value_list)(NULL, 0, NULL, 0, settings);
     EXPECT(is_made(&made, LEGEND_CATEGORIC, settings) && categoric->count == 0 && categoric->lookup_count == 0);
 
     made = CALL(legend_create_categoric_for_value_list_from_ramp)(ramp(), values, 3, settings);
     EXPECT(is_made(&made, LEGEND_CATEGORIC, settings) && categoric->count == 3 && categoric->lookup_count == 8);
     EXPECT(is_key(&made, 0, 2, entry(128)) && is_key(&made, 1, 5, entry(255)) && is_key(&made, 2, 7, entry(0)));
-    made = CALL(legend_create_categoric_for_value_list_from_ramp)(ramp(), NULL, 0, settings);
+    made = CALL_WITH_NULL(legend_create_categoric_for_value_list_from_ramp)(ramp(), NULL, 0, settings);
     EXPECT(is_made(&made, LEGEND_CATEGORIC, settings) && categoric->count == 0 && categoric->lookup_count == 0);
 
     made = CALL(legend_create_categoric_for_value_range)(THREE, 3, -1, 1, settings);
     EXPECT(is_made(&made, LEGEND_CATEGORIC, settings) && categoric->count == 3 && categoric->lookup_count == 0);
     EXPECT(is_key(&made, 0, -1, A) && is_key(&made, 1, 0, B) && is_key(&made, 2, 1, C));
-    made = CALL(legend_create_categoric_for_value_range)(NULL, 0, 1, 0, settings);
+    made = CALL_WITH_NULL(legend_create_categoric_for_value_range)(NULL, 0, 1, 0, settings);
     EXPECT(is_made(&made, LEGEND_CATEGORIC, settings) && categoric->count == 0 && categoric->lookup_count == 0);
 
     made = CALL(legend_create_categoric_for_value_range_from_ramp)(ramp(), 3, 5, settings);
@@ -419,102 +423,103 @@ static Buffers painted(const Case *test, const uint32_t *colors, size_t count, s
         (legend)->categoric.colors, (legend)->categoric.lookup
 
 /* For one type of sample: the header's functions and the library's own calls give the same, and what is expected. */
-#define USES(type)                                                                                             \
-    static void color_##type(const Case *test, uint32_t given, const uint32_t *colors) {                       \
-        for (int i = 0; i < PERIOD; i++) {                                                                     \
-            const type##_sample value = (type##_sample)SAMPLES[i];                                             \
-            const LegendColor color = CALL(legend_color_for_##type)(&test->legend, value, given, 12);          \
-            const LegendColor own = CALL(legend_lent_color_for_##type)(PARTS(&test->legend), value, given, 12); \
-            EXPECT(is_done(color.answer) && color.color == colors[i]);                                         \
-            EXPECT(is_done(own.answer) && own.color == colors[i]);                                             \
-        }                                                                                                      \
-    }                                                                                                          \
-                                                                                                               \
-    static void plain_##type(const Case *test, const type##_sample *src, size_t count, uint32_t given,         \
-                             const uint32_t *colors) {                                                         \
-        const Buffers expected = painted(test, colors, count, 0);                                              \
-        Buffers one = lent_buffers(), other = lent_buffers();                                                  \
-        EXPECT(is_done(CALL(legend_paint_##type)(&test->legend, src, count, given, 12, one.out, count)));      \
-        EXPECT(are_same(&one, &expected));                                                                     \
-        EXPECT(is_done(                                                                                        \
-            CALL(legend_lent_paint_##type)(PARTS(&test->legend), src, count, given, 12, other.out, count)));   \
-        EXPECT(are_same(&other, &expected));                                                                   \
-    }                                                                                                          \
-                                                                                                               \
-    static void lanes_##type(const Case *test, size_t lanes, const type##_sample *src, size_t count,           \
-                             uint32_t given, const uint32_t *colors) {                                         \
-        const Buffers expected = painted(test, colors, count, lanes);                                          \
-        Buffers one = lent_buffers(), other = lent_buffers();                                                  \
-        EXPECT(is_done(CALL(legend_paint_lanes_##type)(&test->legend, lanes, src, count, given, 12, one.out,   \
-                                                       count, one.scratch, SCRATCH)));                         \
-        EXPECT(are_same(&one, &expected));                                                                     \
-        EXPECT(is_done(CALL(legend_lent_paint_lanes_##type)(PARTS(&test->legend), lanes, src, count, given, 12, \
-                                                            other.out, count, other.scratch, SCRATCH)));       \
-        EXPECT(are_same(&other, &expected));                                                                   \
-    }                                                                                                          \
-                                                                                                               \
-    /* Refused before a buffer is touched. */                                                                  \
-    static void refused_##type(const LegendRecord *legend, const type##_sample *src, uint32_t given,           \
-                               uint32_t number) {                                                              \
-        const Buffers before = lent_buffers();                                                                 \
-        Buffers lent = lent_buffers();                                                                         \
-        const LegendColor color = CALL(legend_color_for_##type)(legend, 5, given, 12);                         \
-        EXPECT(is_refused(color.answer, number) && color.color == 0);                                          \
-        LegendAnswer answer = CALL(legend_paint_##type)(legend, src, LENGTH, given, 12, lent.out, LENGTH);     \
-        EXPECT(is_refused(answer, number) && are_same(&lent, &before));                                        \
-        answer = CALL(legend_paint_lanes_##type)(legend, 8, src, LENGTH, given, 12, lent.out, LENGTH,          \
-                                                 lent.scratch, SCRATCH);                                       \
-        EXPECT(is_refused(answer, number) && are_same(&lent, &before));                                        \
-    }                                                                                                          \
-                                                                                                               \
-    static void buffers_##type(const LegendRecord *legend, const type##_sample *src) {                         \
-        const Buffers before = lent_buffers();                                                                 \
-        Buffers lent = lent_buffers();                                                                         \
-        LegendAnswer answer = CALL(legend_paint_##type)(legend, src, LENGTH, 0, 0, lent.out, LENGTH + 1);      \
-        EXPECT(is_refused(answer, LEGEND_OUTPUT_LENGTH_DIFFERS) && are_same(&lent, &before));                  \
-        answer = CALL(legend_paint_lanes_##type)(legend, 4, src, LENGTH, 0, 0, lent.out, LENGTH - 1,           \
-                                                 lent.scratch, SCRATCH);                                       \
-        EXPECT(is_refused(answer, LEGEND_OUTPUT_LENGTH_DIFFERS) && are_same(&lent, &before));                  \
-        answer = CALL(legend_paint_lanes_##type)(legend, 5, src, LENGTH, 0, 0, lent.out, LENGTH - 1,           \
-                                                 lent.scratch, 15);                                            \
-        EXPECT(is_refused(answer, LEGEND_NO_SUCH_LANE_COUNT) && are_same(&lent, &before));                     \
-        answer = CALL(legend_paint_lanes_##type)(legend, 16, src, LENGTH, 0, 0, lent.out, LENGTH - 1,          \
-                                                 lent.scratch, 15);                                            \
-        EXPECT(is_refused(answer, LEGEND_SCRATCH_TOO_SHORT) && are_same(&lent, &before));                      \
-        /* NULL beside a length of 0. */                                                                       \
-        EXPECT(is_done(CALL(legend_paint_##type)(legend, NULL, 0, 0, 0, NULL, 0)));                            \
-        EXPECT(is_refused(CALL(legend_paint_##type)(legend, NULL, 0, 0, 0, lent.out, 1),                       \
-                          LEGEND_OUTPUT_LENGTH_DIFFERS));                                                      \
-        EXPECT(is_refused(CALL(legend_paint_##type)(legend, src, 1, 0, 0, NULL, 0),                            \
-                          LEGEND_OUTPUT_LENGTH_DIFFERS));                                                      \
-        answer = CALL(legend_paint_lanes_##type)(legend, 8, NULL, 0, 0, 0, NULL, 0, lent.scratch, SCRATCH);    \
-        EXPECT(is_done(answer) && are_same(&lent, &before));                                                   \
-        answer = CALL(legend_paint_lanes_##type)(legend, 8, NULL, 0, 0, 0, NULL, 0, NULL, 0);                  \
-        EXPECT(is_refused(answer, LEGEND_SCRATCH_TOO_SHORT) && are_same(&lent, &before));                      \
-    }                                                                                                          \
-                                                                                                               \
-    static void uses_##type(const Case *test) {                                                                \
-        type##_sample src[LENGTH];                                                                             \
-        for (int i = 0; i < LENGTH; i++) {                                                                     \
-            src[i] = (type##_sample)SAMPLES[i % PERIOD];                                                       \
-        }                                                                                                      \
-        for (uint32_t given = 0; given < 2; given++) {                                                         \
-            const uint32_t *colors = given ? test->with_nodata : test->without;                                \
-            color_##type(test, given, colors);                                                                 \
-            for (size_t count = 0; count <= LENGTH; count++) {                                                 \
-                plain_##type(test, src, count, given, colors);                                                 \
-                for (size_t lanes = 4; lanes <= 16; lanes *= 2) {                                              \
-                    lanes_##type(test, lanes, src, count, given, colors);                                      \
-                }                                                                                              \
-            }                                                                                                  \
-        }                                                                                                      \
-        buffers_##type(&test->legend, src);                                                                    \
-        refused_##type(&test->legend, src, 2, LEGEND_BAD_FLAG);                                                \
-        LegendRecord other = test->legend;                                                                     \
-        other.kind = 3;                                                                                        \
-        refused_##type(&other, src, 2, LEGEND_BAD_KIND);                                                       \
-        other.settings.has_high = 2;                                                                           \
-        refused_##type(&other, src, 1, LEGEND_BAD_FLAG);                                                       \
+#define USES(type)                                                                                                     \
+    static void color_##type(const Case *test, uint32_t given, const uint32_t *colors) {                               \
+        for (int i = 0; i < PERIOD; i++) {                                                                             \
+            const type##_sample value = (type##_sample)SAMPLES[i];                                                     \
+            const LegendColor color = CALL(legend_color_for_##type)(&test->legend, value, given, 12);                  \
+            const LegendColor own = CALL(legend_lent_color_for_##type)(PARTS(&test->legend), value, given, 12);        \
+            EXPECT(is_done(color.answer) && color.color == colors[i]);                                                 \
+            EXPECT(is_done(own.answer) && own.color == colors[i]);                                                     \
+        }                                                                                                              \
+    }                                                                                                                  \
+                                                                                                                       \
+    static void plain_##type(const Case *test, const type##_sample *src, size_t count, uint32_t given,                 \
+                             const uint32_t *colors) {                                                                 \
+        const Buffers expected = painted(test, colors, count, 0);                                                      \
+        Buffers one = lent_buffers(), other = lent_buffers();                                                          \
+        EXPECT(is_done(CALL(legend_paint_##type)(&test->legend, src, count, given, 12, one.out, count)));              \
+        EXPECT(are_same(&one, &expected));                                                                             \
+        EXPECT(is_done(                                                                                                \
+            CALL(legend_lent_paint_##type)(PARTS(&test->legend), src, count, given, 12, other.out, count)));           \
+        EXPECT(are_same(&other, &expected));                                                                           \
+    }                                                                                                                  \
+                                                                                                                       \
+    static void lanes_##type(const Case *test, size_t lanes, const type##_sample *src, size_t count,                   \
+                             uint32_t given, const uint32_t *colors) {                                                 \
+        const Buffers expected = painted(test, colors, count, lanes);                                                  \
+        Buffers one = lent_buffers(), other = lent_buffers();                                                          \
+        EXPECT(is_done(CALL(legend_paint_lanes_##type)(&test->legend, lanes, src, count, given, 12, one.out,           \
+                                                       count, one.scratch, SCRATCH)));                                 \
+        EXPECT(are_same(&one, &expected));                                                                             \
+        EXPECT(is_done(CALL(legend_lent_paint_lanes_##type)(PARTS(&test->legend), lanes, src, count, given, 12,        \
+                                                            other.out, count, other.scratch, SCRATCH)));               \
+        EXPECT(are_same(&other, &expected));                                                                           \
+    }                                                                                                                  \
+                                                                                                                       \
+    /* Refused before a buffer is touched. */                                                                          \
+    static void refused_##type(const LegendRecord *legend, const type##_sample *src, uint32_t given,                   \
+                               uint32_t number) {                                                                      \
+        const Buffers before = lent_buffers();                                                                         \
+        Buffers lent = lent_buffers();                                                                                 \
+        const LegendColor color = CALL(legend_color_for_##type)(legend, 5, given, 12);                                 \
+        EXPECT(is_refused(color.answer, number) && color.color == 0);                                                  \
+        LegendAnswer answer = CALL(legend_paint_##type)(legend, src, LENGTH, given, 12, lent.out, LENGTH);             \
+        EXPECT(is_refused(answer, number) && are_same(&lent, &before));                                                \
+        answer = CALL(legend_paint_lanes_##type)(legend, 8, src, LENGTH, given, 12, lent.out, LENGTH,                  \
+                                                 lent.scratch, SCRATCH);                                               \
+        EXPECT(is_refused(answer, number) && are_same(&lent, &before));                                                \
+    }                                                                                                                  \
+                                                                                                                       \
+    static void buffers_##type(const LegendRecord *legend, const type##_sample *src) {                                 \
+        const Buffers before = lent_buffers();                                                                         \
+        Buffers lent = lent_buffers();                                                                                 \
+        LegendAnswer answer = CALL(legend_paint_##type)(legend, src, LENGTH, 0, 0, lent.out, LENGTH + 1);              \
+        EXPECT(is_refused(answer, LEGEND_OUTPUT_LENGTH_DIFFERS) && are_same(&lent, &before));                          \
+        answer = CALL(legend_paint_lanes_##type)(legend, 4, src, LENGTH, 0, 0, lent.out, LENGTH - 1,                   \
+                                                 lent.scratch, SCRATCH);                                               \
+        EXPECT(is_refused(answer, LEGEND_OUTPUT_LENGTH_DIFFERS) && are_same(&lent, &before));                          \
+        answer = CALL(legend_paint_lanes_##type)(legend, 5, src, LENGTH, 0, 0, lent.out, LENGTH - 1,                   \
+                                                 lent.scratch, 15);                                                    \
+        EXPECT(is_refused(answer, LEGEND_NO_SUCH_LANE_COUNT) && are_same(&lent, &before));                             \
+        answer = CALL(legend_paint_lanes_##type)(legend, 16, src, LENGTH, 0, 0, lent.out, LENGTH - 1,                  \
+                                                 lent.scratch, 15);                                                    \
+        EXPECT(is_refused(answer, LEGEND_SCRATCH_TOO_SHORT) && are_same(&lent, &before));                              \
+        /* NULL beside a length of 0, here or in both. */                                                              \
+        EXPECT(is_refused(CALL(legend_paint_##type)(legend, NULL, 0, 0, 0, lent.out, 1), LEGEND_OUTPUT_LENGTH_DIFFERS));\
+        EXPECT(is_refused(CALL(legend_paint_##type)(legend, src, 1, 0, 0, NULL, 0), LEGEND_OUTPUT_LENGTH_DIFFERS));    \
+        EXPECT(is_done(CALL_WITH_NULL(legend_paint_##type)(legend, NULL, 0, 0, 0, NULL, 0)));                          \
+        EXPECT(is_done(CALL_WITH_NULL(legend_lent_paint_##type)(PARTS(legend), NULL, 0, 0, 0, NULL, 0)));              \
+        answer = CALL(legend_paint_lanes_##type)(legend, 8, NULL, 0, 0, 0, NULL, 0, lent.scratch, SCRATCH);            \
+        EXPECT(is_done(answer) && are_same(&lent, &before));                                                           \
+        answer = CALL_WITH_NULL(legend_paint_lanes_##type)(legend, 8, NULL, 0, 0, 0, NULL, 0, NULL, 0);                \
+        EXPECT(is_refused(answer, LEGEND_SCRATCH_TOO_SHORT));                                                          \
+        answer = CALL_WITH_NULL(legend_lent_paint_lanes_##type)(PARTS(legend), 8, NULL, 0, 0, 0, NULL, 0, NULL, 0);    \
+        EXPECT(is_refused(answer, LEGEND_SCRATCH_TOO_SHORT));                                                          \
+    }                                                                                                                  \
+                                                                                                                       \
+    static void uses_##type(const Case *test) {                                                                        \
+        type##_sample src[LENGTH];                                                                                     \
+        for (int i = 0; i < LENGTH; i++) {                                                                             \
+            src[i] = (type##_sample)SAMPLES[i % PERIOD];                                                               \
+        }                                                                                                              \
+        for (uint32_t given = 0; given < 2; given++) {                                                                 \
+            const uint32_t *colors = given ? test->with_nodata : test->without;                                        \
+            color_##type(test, given, colors);                                                                         \
+            for (size_t count = 0; count <= LENGTH; count++) {                                                         \
+                plain_##type(test, src, count, given, colors);                                                         \
+                for (size_t lanes = 4; lanes <= 16; lanes *= 2) {                                                      \
+                    lanes_##type(test, lanes, src, count, given, colors);                                              \
+                }                                                                                                      \
+            }                                                                                                          \
+        }                                                                                                              \
+        buffers_##type(&test->legend, src);                                                                            \
+        refused_##type(&test->legend, src, 2, LEGEND_BAD_FLAG);                                                        \
+        LegendRecord other = test->legend;                                                                             \
+        other.kind = 3;                                                                                                \
+        refused_##type(&other, src, 2, LEGEND_BAD_KIND);                                                               \
+        other.settings.has_high = 2;                                                                                   \
+        refused_##type(&other, src, 1, LEGEND_BAD_FLAG);                                                               \
     }
 
 typedef float f32_sample;

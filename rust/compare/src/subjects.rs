@@ -12,8 +12,8 @@ pub mod stored;
 use legend::ffi::LegendAnswer;
 
 /// An answer of the library as words: number, whether there is an index, index.
-fn answer_words(answer: LegendAnswer) -> [u64; 3] {
-    [answer.number.into(), answer.indexed.into(), answer.index as u64]
+fn answer_words(LegendAnswer { number, indexed, index }: LegendAnswer) -> [u64; 3] {
+    [number.into(), indexed.into(), index as u64]
 }
 
 /// The same of a refusal.

@@ -13,10 +13,21 @@ use std::sync::Mutex;
 use std::thread;
 use tools::{ARCHIVE, FOLDER, declared, header, repository, run_c};
 
+/// The names of the calls that the program has made, and of those that it gave NULL beside lengths of 0.
+fn called() -> [BTreeSet<String>; 2] {
+    let said = run_c(&repository().join("c/calls.c"), "calls");
+    let (null, called): (Vec<&str>, Vec<&str>) = said.lines().partition(|line| line.starts_with("NULL: "));
+    let names = |lines: Vec<&str>| lines.iter().map(|line| line.replace("NULL: ", "")).collect();
+    [names(called), names(null)]
+}
+
 #[test]
 fn every_call_is_run_from_c() {
-    let called = run_c(&repository().join("c/calls.c"), "calls");
-    assert_eq!(called.lines().map(str::to_string).collect::<BTreeSet<_>>(), declared(&header()));
+    let header = header();
+    let [called, with_null] = called();
+    assert_eq!(called, declared(&header));
+    let counted = |name: &String| parameters(&signature(&header, name).1).iter().any(|given| given.names.len() == 2);
+    assert_eq!(with_null, declared(&header).into_iter().filter(counted).collect());
 }
 
 #[test]
@@ -136,6 +147,15 @@ struct Parameter {
     names: Vec<String>,
 }
 
+/// What a call gives, and the list of its parameters, as the header has them.
+fn signature(header: &str, name: &str) -> (String, String) {
+    let from = header.find(&format!(" {name}(")).expect("a declaration") + 1;
+    let line = header[..from].rfind('\n').expect("a line") + 1;
+    let list = &header[from + name.len() + 1..];
+    let list = &list[..list.find(')').expect("an end")];
+    (header[line..from].trim().to_string(), list.trim().to_string())
+}
+
 fn parameters(list: &str) -> Vec<Parameter> {
     let mut all: Vec<Parameter> = vec![];
     for (name, kind) in list.split(',').map(|declaration| parted(declaration.trim())) {
@@ -156,14 +176,10 @@ fn parameters_swapped(header: &str) -> (String, Vec<String>) {
     let (mut text, mut swaps) =
         (header.replacen("#include <stdint.h>\n", &format!("#include <stdint.h>\n{chosen}"), 1), vec![]);
     for name in declared(header) {
-        let from = text.find(&format!(" {name}(")).expect("a declaration") + 1;
-        let line = text[..from].rfind('\n').expect("a line") + 1;
-        let result = text[line..from].trim().to_string();
+        let (result, list) = signature(header, &name);
         if result.starts_with("static") {
             continue;
         }
-        let end = from + text[from..].find(");").expect("an end") + 2;
-        let list = text[from + name.len() + 1..end - 2].trim().to_string();
         let parameters = parameters(&list);
         let given = |order: &[usize]| {
             let names: Vec<_> = order.iter().flat_map(|&at| parameters[at].names.iter().map(String::as_str)).collect();
@@ -180,6 +196,8 @@ fn parameters_swapped(header: &str) -> (String, Vec<String>) {
             body += &format!("    if (swap_is({})) {}\n", swaps.len(), given(&order));
         }
         let wrapper = format!("\nstatic inline {result} swapped_{name}({list}) {{\n{body}    {}\n}}\n", given(&order));
+        let from = text.find(&format!("\n{result} {name}(")).expect("a declaration");
+        let end = from + text[from..].find(");").expect("an end") + 2;
         text.insert_str(end, &format!("{wrapper}#define {name} swapped_{name}\n"));
     }
     (text, swaps)
