@@ -125,15 +125,15 @@ impl<'a> Painter<'a> {
 
     fn categoric(&self, value: f32) -> u32 {
         let categoric = &self.legend.categoric;
-        // 2^63 is a f32; the cast is exact below it.
-        let whole =
-            (value >= -9_223_372_036_854_775_808.0 && value < 9_223_372_036_854_775_808.0).then_some(value as i64);
-        let Some(key) = whole else { return self.nodata_color() };
+        // 2^63 is an f32, and every f32 from -2^63 to below it is cut exactly.
+        let limit = 2f32.powi(63);
+        if !(-limit..limit).contains(&value) {
+            return self.nodata_color();
+        }
+        let key = value as i64;
         let found = if categoric.lookup_count > 0 {
-            usize::try_from(key)
-                .ok()
-                .filter(|place| *place < categoric.lookup_count)
-                .map(|place| categoric.lookup[place])
+            let table = &categoric.lookup[..categoric.lookup_count];
+            usize::try_from(key).ok().and_then(|place| table.get(place)).copied()
         } else {
             let place = categoric.keys[..categoric.count].iter().position(|other| *other == key);
             place.map(|place| categoric.colors[place])
@@ -157,8 +157,7 @@ impl<'a> Painter<'a> {
         let (Some(first), Some(last)) = (self.bands.first(), self.bands.last()) else { return colors };
         let mut held = vec![false; chunk.len()];
         for band in self.bands {
-            for (lane, value) in chunk.iter().enumerate().filter(|(_, value)| holds(band, **value)) {
-                let _ = value;
+            for lane in (0..chunk.len()).filter(|&lane| holds(band, chunk[lane])) {
                 (colors[lane], held[lane]) = (band.color.word(), true);
             }
             if held.iter().all(|held| *held) {

@@ -171,25 +171,21 @@ fn any_keys(random: &mut Random) -> Vec<i64> {
 
 /// The C calls of a type of sample.
 pub trait Raw: Drawn {
-    const COLOR: fn(&LegendRecord, Self, u32, Self) -> LegendColor;
-    const PAINT: fn(&LegendRecord, &[Self], u32, Self, &mut [Color]) -> LegendAnswer;
-    const PAINT_LANES: fn(&LegendRecord, usize, &[Self], u32, Self, &mut [Color], &mut [Color]) -> LegendAnswer;
+    const COLOR: ColorFor<Self>;
+    const PAINT: Paint<Self>;
+    const PAINT_LANES: PaintLanes<Self>;
 }
+
+type ColorFor<T> = fn(&LegendRecord, T, u32, T) -> LegendColor;
+type Paint<T> = fn(&LegendRecord, &[T], u32, T, &mut [Color]) -> LegendAnswer;
+type PaintLanes<T> = fn(&LegendRecord, usize, &[T], u32, T, &mut [Color], &mut [Color]) -> LegendAnswer;
 
 macro_rules! raw {
     ($type:ty, $color:ident, $paint:ident, $paint_lanes:ident) => {
         impl Raw for $type {
-            const COLOR: fn(&LegendRecord, $type, u32, $type) -> LegendColor = ffi::$color;
-            const PAINT: fn(&LegendRecord, &[$type], u32, $type, &mut [Color]) -> LegendAnswer = ffi::$paint;
-            const PAINT_LANES: fn(
-                &LegendRecord,
-                usize,
-                &[$type],
-                u32,
-                $type,
-                &mut [Color],
-                &mut [Color],
-            ) -> LegendAnswer = ffi::$paint_lanes;
+            const COLOR: ColorFor<$type> = ffi::$color;
+            const PAINT: Paint<$type> = ffi::$paint;
+            const PAINT_LANES: PaintLanes<$type> = ffi::$paint_lanes;
         }
     };
 }
