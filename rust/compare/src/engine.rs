@@ -35,6 +35,11 @@ pub trait Subject: Sync {
     }
 }
 
+/// Facts as bits, the first lowest, for [`Subject::has`].
+pub fn bits<const N: usize>(facts: [bool; N]) -> u64 {
+    (0..).zip(facts).map(|(bit, fact)| u64::from(fact) << bit).sum()
+}
+
 /// Inputs by number, so that each can be made by itself.
 pub struct Inputs<'a, I> {
     pub count: u64,

@@ -5,7 +5,7 @@
 use super::legends::samples::{Drawn, far_keys, float, near, raster_length};
 use super::legends::{FAR, color_word, fewer, float_word, nodata_of};
 use super::{DONE, answer_words};
-use crate::engine::{Inputs, Subject};
+use crate::engine::{Inputs, Subject, bits};
 use crate::random::Random;
 use crate::rules::{self, Refused};
 use legend::ffi::{self, LegendAnswer, LegendBand, LegendColor, LegendRecord, LegendSettings};
@@ -248,7 +248,8 @@ impl<T: Raw> Use<T> {
     }
 }
 
-const ALWAYS: [&str; 15] = [
+/// What has to be among the inputs: the last two can be had of f32 alone.
+const WANTED: [&str; 17] = [
     "a key of a sample that stands twice, in two colours",
     "a key of a sample that stands beyond the count alone",
     "a sample in a band beyond the count",
@@ -264,19 +265,9 @@ const ALWAYS: [&str; 15] = [
     "a raster's length from 511 to 513",
     "a nodata value that is in no sample",
     "a painting that is done",
+    "a key of a sample near 16,777,216",
+    "a key of a sample near -16,777,216",
 ];
-/// All of them: the last two can be had of f32 alone.
-const WANTED: [&str; 17] = {
-    let mut all = [""; 17];
-    let mut at = 0;
-    while at < ALWAYS.len() {
-        all[at] = ALWAYS[at];
-        at += 1;
-    }
-    all[15] = "a key of a sample near 16,777,216";
-    all[16] = "a key of a sample near -16,777,216";
-    all
-};
 
 impl<T: Raw> Subject for Uses<T> {
     type Input = Use<T>;
@@ -322,7 +313,7 @@ impl<T: Raw> Subject for Uses<T> {
     }
 
     fn wanted(&self) -> &'static [&'static str] {
-        if T::FAR { &WANTED } else { &ALWAYS }
+        if T::FAR { &WANTED } else { &WANTED[..15] }
     }
 
     fn has(&self, input: &Use<T>) -> u64 {
@@ -347,7 +338,7 @@ impl<T: Raw> Subject for Uses<T> {
         let table = categoric.lookup_count.min(513) as i64..513;
         let far = far_keys(within, &keys);
         let length = |lengths: std::ops::RangeInclusive<usize>| lengths.contains(&raster.len());
-        let facts = [
+        bits([
             by_keys && keys.iter().any(twice),
             by_keys && keys.iter().any(past),
             held(&legend.banded.bands[legend.banded.count.min(64)..]),
@@ -365,8 +356,7 @@ impl<T: Raw> Subject for Uses<T> {
             used,
             by_keys && far[0],
             by_keys && far[1],
-        ];
-        (0..).zip(facts).map(|(bit, fact)| u64::from(fact) << bit).sum()
+        ])
     }
 }
 
@@ -453,7 +443,7 @@ impl Subject for Wholes {
         let twice = (1..within.len()).any(|at| within[..at].contains(&within[at]));
         let wider = within.iter().max() < beyond.iter().max() || beyond.iter().min() < within.iter().min();
         let far = far_keys(within, within);
-        let facts = [
+        bits([
             number == 16,
             number == 17,
             number == 100,
@@ -462,8 +452,7 @@ impl Subject for Wholes {
             used && wider,
             used && far[0],
             used && far[1],
-        ];
-        (0..).zip(facts).map(|(bit, fact)| u64::from(fact) << bit).sum()
+        ])
     }
 }
 

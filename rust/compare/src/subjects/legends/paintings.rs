@@ -2,7 +2,7 @@
 
 use super::samples::{Drawn, edges, far_keys, nodata_of, raster_length};
 use super::{Asked, Kinds, ask, fewer, said, smaller_asked};
-use crate::engine::{Inputs, Subject};
+use crate::engine::{Inputs, Subject, bits};
 use crate::random::Random;
 use crate::subjects::{DONE, refusal_words};
 use legend::{Color, Lanes};
@@ -130,15 +130,14 @@ impl<T: Drawn> Subject for Paintings<T> {
         let keys: Vec<i64> = legend.categories().map(|category| category.0).collect();
         let samples: Vec<i64> = raster.iter().filter_map(|&sample| legend::key(sample.into())).collect();
         let far = if legend.table().is_none() { far_keys(&keys, &samples) } else { [false; 2] };
-        let facts = [
+        bits([
             raster.len() % 4 == 2,
             (255..=257).contains(&raster.len()),
             (511..=513).contains(&raster.len()),
             nodata.is_some_and(|nodata| !raster.contains(&nodata)),
             far[0],
             far[1],
-        ];
-        (0..).zip(facts).map(|(bit, fact)| u64::from(fact) << bit).sum()
+        ])
     }
 }
 

@@ -2,7 +2,7 @@
 
 use super::samples::far_keys;
 use super::{Asked, Job, Refused, first_outside, float_word, said, smaller_asked};
-use crate::engine::Subject;
+use crate::engine::{Subject, bits};
 use crate::subjects::{DONE, refusal_words};
 
 pub struct Ranges;
@@ -61,7 +61,6 @@ impl Subject for Ranges {
             return 0;
         }
         let keys: Vec<i64> = legend.categories().map(|category| category.0).collect();
-        let far = far_keys(&keys, &keys);
-        u64::from(far[0]) | u64::from(far[1]) << 1
+        bits(far_keys(&keys, &keys))
     }
 }

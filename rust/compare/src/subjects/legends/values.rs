@@ -2,7 +2,7 @@
 
 use super::samples::{Drawn, edges, far_keys, nodata_of};
 use super::{Asked, Kinds, ask, fewer, said, smaller_asked};
-use crate::engine::{Inputs, Subject};
+use crate::engine::{Inputs, Subject, bits};
 use crate::random::Random;
 use crate::subjects::{DONE, refusal_words};
 use std::marker::PhantomData;
@@ -70,8 +70,7 @@ impl<T: Drawn> Subject for Values<T> {
         let keys: Vec<i64> = legend.categories().map(|category| category.0).collect();
         let samples: Vec<i64> = values.iter().filter_map(|&sample| legend::key(sample.into())).collect();
         let far = far_keys(&keys, &samples);
-        let facts = [nodata.is_some_and(|nodata| !values.contains(&nodata)), far[0], far[1]];
-        (0..).zip(facts).map(|(bit, fact)| u64::from(fact) << bit).sum()
+        bits([nodata.is_some_and(|nodata| !values.contains(&nodata)), far[0], far[1]])
     }
 }
 
