@@ -8,8 +8,8 @@
  * What a caller owes is C's own. A pointer is aligned and points to as many elements as the count beside it says, or
  * as its brackets say. What a call writes to, an output or scratch, overlaps nothing else that the call is given: no
  * other buffer, and no part of the legend. A pointer is not NULL, unless the count beside it is 0: then nothing is read
- * or written through it. That the calls keep within the counts is proved; that NULL beside 0 does no harm is not, but
- * c/calls.c runs every call with a count so.
+ * or written through it. That the calls keep within the counts is proved of their source; that NULL beside 0 does no
+ * harm is not, but c/calls.c runs every call with a count so.
  *
  * The default floating-point environment is assumed: rounding to nearest, and subnormal numbers as they are. Another
  * rounding direction changes colours, and flushing subnormal numbers to zero may.
@@ -200,9 +200,9 @@ typedef struct LegendRanges {
 /* ---- Builders ----
  *
  * Each is refused by 100 for a flag of its settings; then as its line says. Colours come as a list, or as a ramp by the
- * names that say so: a linear legend has the ramp itself, another kind its colours at 0, s, s + s, .. with s = 1 / (count
- * - 1), summed in float, so that the last may be beyond 1 and TRANSPARENT. The settings of the legend made are those
- * given, with a low or high colour of 0 where its flag is 0. */
+ * names that say so: a linear legend has the ramp itself, another kind its colours at 0, s, s + s, .. where s is
+ * 1 / (count - 1), summed in float, so that the last may be beyond 1 and TRANSPARENT. The settings of the legend made are
+ * those given, with a low or high colour of 0 where its flag is 0. */
 
 /* Linear, from start to end. From a list, refused: 4, 5, 7. From a ramp: 7. */
 LegendMade legend_create_linear(const uint32_t *colors, size_t colors_count, float start, float end,
