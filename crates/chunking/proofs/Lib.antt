@@ -3,3 +3,5 @@ pub mod Demand3
 pub mod AllHold
 pub mod Witnesses
 mod ChunkLaws
+mod Alike
+mod Zeros
