@@ -4,5 +4,6 @@ pub mod LaneForms
 pub mod Chunk
 pub mod Settling
 pub mod Ordering
+pub mod FarEdges
 pub mod SampleLaw
 pub mod LaneLaw

@@ -7,10 +7,7 @@ use mathlib.Core.List.{List, [], _∷_, _++_}
 use lib.Dec.{T, T-not, not-T}
 use lib.Ieee.{Float, binary32, lt, le, sub, isNan}
 use lib.Ieee.Fits.{and-i, and-l, and-r}
-use lib.Ieee.Scale.{finite}
-use Rattle.floats.specs.Size.{abs}
-use Rattle.floats.proofs.Order.{le-le, lt-le, lt-not-le, not-lt, not-le, lt→le, le-l, le-r, le-refl-float, finite-real}
-use Rattle.floats.proofs.Distance.{beyond, before}
+use Rattle.floats.proofs.Order.{le-le, lt-le, lt-not-le, not-lt, not-le, lt→le, lt-l, le-l, le-r, le-refl-float}
 use Rattle.colormapper.specs.declared.UnmappableColors.{UnmappableColors}
 use Rattle.colormapper.specs.Tolerance.{E, within}
 use Rattle.bands.specs.declared.LegendBand.{LegendBand}
@@ -18,9 +15,10 @@ use Rattle.bands.specs.Band.{holds, lastOf}
 use Rattle.bands.specs.PlainRule.{plainColor}
 use Rattle.lane_edges.specs.Edges.{edged}
 use Rattle.bands.specs.Parts.{firstColor, edgeColor}
-use Rattle.band_lanes.specs.Sound.{finiteBand, startsBelowEnd, clears, wideBand, eachBand, eachAfter, eachNext, firstAndLast, Sound}
+use Rattle.band_lanes.specs.Sound.{startsBelowEnd, clears, wideBand, eachBand, eachAfter, eachNext, firstAndLast, Sound}
 use Rattle.bands.proofs.Forms.{edge-chain, plain-form}
 use Rattle.band_lanes.proofs.Ordering.{end-start}
+use Rattle.band_lanes.proofs.FarEdges.{past-end, up-to-start}
 
 -- the lanes' colour after some bands, each over those before it
 unfoldable pub laneIn : List LegendBand → Float → ℕ → ℕ
@@ -32,10 +30,10 @@ unfoldable pub held : List LegendBand → Float → Bool
 held [] v = false
 held (b ∷ bs) v = cond (holds b v) true (held bs v)
 
--- finite, each from its start to its end, none starting below the end of the one before (and the first not below lo)
+-- each from its start to its end, none starting below the end of the one before (and the first not below lo)
 abbrev Chain : Float → List LegendBand → Type 0
 Chain lo [] = Unit
-Chain lo (b ∷ bs) = T (finite (b .start)) × T (finite (b .end)) × T (le lo (b .start)) × T (le (b .start) (b .end)) × Chain (b .end) bs
+Chain lo (b ∷ bs) = T (le lo (b .start)) × T (le (b .start) (b .end)) × Chain (b .end) bs
 
 -- a test's answer
 both : (b : Bool) → T b ⊎ T (not b)
@@ -55,17 +53,17 @@ none-below : (lo v : Float) (bs : List LegendBand) (d : ℕ) → Chain lo bs →
 unfolding laneIn
 none-below lo v [] d c h = refl
 none-below lo v (b ∷ bs) d c h =
-    let n : T (not (holds b v)) = not-T (holds b v) (λ (t : T (holds b v)). lt-not-le v (b .start) (lt-le v lo (b .start) h (c .2)) (and-l (le (b .start) v) (lt v (b .end)) t)) in
-    ap (laneIn bs v) (no-is (holds b v) (b .color) d n) ∙ none-below (b .end) v bs d (c .4) (lt-le v (b .start) (b .end) (lt-le v lo (b .start) h (c .2)) (c .3))
+    let n : T (not (holds b v)) = not-T (holds b v) (λ (t : T (holds b v)). lt-not-le v (b .start) (lt-le v lo (b .start) h (c .0)) (and-l (le (b .start) v) (lt v (b .end)) t)) in
+    ap (laneIn bs v) (no-is (holds b v) (b .color) d n) ∙ none-below (b .end) v bs d (c .2) (lt-le v (b .start) (b .end) (lt-le v lo (b .start) h (c .0)) (c .1))
 
 -- ---- overwriting is the same as taking the first
 same-in : (lo v : Float) (bs : List LegendBand) (d : ℕ) → Chain lo bs → laneIn bs v d ≡ firstColor bs v d
 unfolding laneIn firstColor
 same-in lo v [] d c = refl
-same-in lo v (b ∷ bs) d c = go (holds b v) refl (same-in (b .end) v bs d (c .4))
+same-in lo v (b ∷ bs) d c = go (holds b v) refl (same-in (b .end) v bs d (c .2))
   where
     go : (t : Bool) → holds b v ≡ t → laneIn bs v d ≡ firstColor bs v d → laneIn bs v (cond t (b .color) d) ≡ cond t (b .color) (firstColor bs v d)
-    go true e ih = none-below (b .end) v bs (b .color) (c .4) (and-r (le (b .start) v) (lt v (b .end)) (subst T (sym e) tt))
+    go true e ih = none-below (b .end) v bs (b .color) (c .2) (and-r (le (b .start) v) (lt v (b .end)) (subst T (sym e) tt))
     go false e ih = ih
 
 module _ (v : Float) where
@@ -91,22 +89,18 @@ module _ (v : Float) where
 record Ends (b l : LegendBand) : Type 0 where
   pub starts : T (le (b .start) (l .start))
   pub ends : T (le (b .end) (l .end))
-  pub fs : T (finite (l .start))
-  pub fe : T (finite (l .end))
   pub order : T (le (l .start) (l .end))
 
 ends : (lo : Float) (b : LegendBand) (bs : List LegendBand) → Chain lo (b ∷ bs) → Ends b (lastOf b bs)
 unfolding lastOf
-ends lo b [] c = record { starts = le-refl-float (b .start) (le-r lo (b .start) (c .2)); ends = le-refl-float (b .end) (le-r (b .start) (b .end) (c .3)); fs = c .0; fe = c .1; order = c .3 }
+ends lo b [] c = record { starts = le-refl-float (b .start) (le-r lo (b .start) (c .0)); ends = le-refl-float (b .end) (le-r (b .start) (b .end) (c .1)); order = c .1 }
 ends lo b (d ∷ bs) c =
-    let r = ends (b .end) d bs (c .4) in
+    let r = ends (b .end) d bs (c .2) in
     let l = lastOf d bs in
-    let x = c .4 .2 in
+    let x = c .2 .0 in
     record {
-      starts = le-le (b .start) (d .start) (l .start) (le-le (b .start) (b .end) (d .start) (c .3) x) (r .starts);
-      ends = le-le (b .end) (d .end) (l .end) (le-le (b .end) (d .start) (d .end) x (c .4 .3)) (r .ends);
-      fs = r .fs;
-      fe = r .fe;
+      starts = le-le (b .start) (d .start) (l .start) (le-le (b .start) (b .end) (d .start) (c .1) x) (r .starts);
+      ends = le-le (b .end) (d .end) (l .end) (le-le (b .end) (d .start) (d .end) x (c .2 .1)) (r .ends);
       order = r .order;
     }
 
@@ -119,8 +113,8 @@ module _ (v : Float) where
   unfolding held
   held-lo lo [] c h = absurd h
   held-lo lo (b ∷ bs) c h = elim (split-held (holds b v) (held bs v) h) [
-    | inl t ↦ le-le lo (b .start) v (c .2) (and-l (le (b .start) v) (lt v (b .end)) t)
-    | inr t ↦ le-le lo (b .start) v (c .2) (le-le (b .start) (b .end) v (c .3) (held-lo (b .end) bs (c .4) t))
+    | inl t ↦ le-le lo (b .start) v (c .0) (and-l (le (b .start) v) (lt v (b .end)) t)
+    | inr t ↦ le-le lo (b .start) v (c .0) (le-le (b .start) (b .end) v (c .1) (held-lo (b .end) bs (c .2) t))
   ]
 
   held-hi : (lo : Float) (b : LegendBand) (bs : List LegendBand) → Chain lo (b ∷ bs) → T (held (b ∷ bs) v) → T (lt v (lastOf b bs .end))
@@ -128,7 +122,7 @@ module _ (v : Float) where
   held-hi lo b [] c h = elim (split-held (holds b v) false h) [ inl t ↦ and-r (le (b .start) v) (lt v (b .end)) t | inr t ↦ absurd t ]
   held-hi lo b (d ∷ bs) c h = elim (split-held (holds b v) (held (d ∷ bs) v) h) [
     | inl t ↦ lt-le v (b .end) (lastOf d bs .end) (and-r (le (b .start) v) (lt v (b .end)) t) (ends lo b (d ∷ bs) c .ends)
-    | inr t ↦ held-hi (b .end) d bs (c .4) t
+    | inr t ↦ held-hi (b .end) d bs (c .2) t
   ]
 
   last-in : (b : LegendBand) (bs : List LegendBand) (d : ℕ) → T (holds (lastOf b bs) v) → laneIn (b ∷ bs) v d ≡ lastOf b bs .color
@@ -190,11 +184,11 @@ module _ (b : LegendBand) (bs : List LegendBand) (u : UnmappableColors) (v : Flo
 
   -- from the first band's end on, v is not within E of its start
   w1 : T (within (b .start) v) → T (lt v (b .end))
-  w1 h = elim (both (lt v (b .end))) [ inl t ↦ t | inr t ↦ absurd (lt-not-le (abs (sub binary32 v (b .start))) E h (beyond binary32 E (b .start) (b .end) v (c .0) (c .1) wide-first (not-lt v (b .end) n (le-r (b .start) (b .end) (c .3)) t))) ]
+  w1 h = elim (both (lt v (b .end))) [ inl t ↦ t | inr t ↦ absurd (past-end (b .start) (b .end) v wide-first (not-lt v (b .end) n (le-r (b .start) (b .end) (c .1)) t) h) ]
 
   -- before the last band's start, v is not within E of its end
   w2 : T (within (l .end) v) → T (le (l .start) v)
-  w2 h = elim (both (le (l .start) v)) [ inl t ↦ t | inr t ↦ absurd (lt-not-le (abs (sub binary32 v (l .end))) E h (before binary32 E (l .start) (l .end) v (Z .fs) (Z .fe) n wide-last (lt→le v (l .start) (not-le (l .start) v (le-l (l .start) (l .end) (Z .order)) n t)))) ]
+  w2 h = elim (both (le (l .start) v)) [ inl t ↦ t | inr t ↦ absurd (up-to-start (l .start) (l .end) v n wide-last (lt→le v (l .start) (not-le (l .start) v (le-l (l .start) (l .end) (Z .order)) n t)) h) ]
 
   -- neither w2 nor above where v is below the first start
   not-w2 : T (lt v (b .start)) → T (within (l .end) v) → ⊥
@@ -233,7 +227,7 @@ module _ (b : LegendBand) (bs : List LegendBand) (u : UnmappableColors) (v : Flo
     where
       w1-below : T (within (b .start) v) → T (lt v (b .start))
       w1-below w =
-          not-le (b .start) v (le-l (b .start) (b .end) (c .3)) n
+          not-le (b .start) v (le-l (b .start) (b .end) (c .1)) n
           (not-T (le (b .start) v) (λ (a : T (le (b .start) v)). T-not (held (b ∷ bs) v) h (first-held v b bs (and-i (le (b .start) v) (lt v (b .end)) a (w1 w)))))
 
   banded-law : top (laneIn (b ∷ bs) v (u .nodata)) ≡ firstColor (b ∷ bs) v edge
@@ -246,7 +240,7 @@ module _ (b : LegendBand) (bs : List LegendBand) (u : UnmappableColors) (v : Flo
 -- ---- a chunk that is finished early, at the bands ps of ps ++ qs, with each lane held by one of ps
 front : (lo : Float) (ps qs : List LegendBand) → Chain lo (ps ++ qs) → Chain lo ps
 front lo [] qs c = tt
-front lo (p ∷ ps) qs c = (c .0, c .1, c .2, c .3, front (p .end) ps qs (c .4))
+front lo (p ∷ ps) qs c = (c .0, c .1, front (p .end) ps qs (c .2))
 
 taken : (v : Float) (ps qs : List LegendBand) (d d' : ℕ) → T (held ps v) → firstColor ps v d ≡ firstColor (ps ++ qs) v d'
 unfolding held firstColor
@@ -261,31 +255,24 @@ early : (lo v : Float) (ps qs : List LegendBand) (nodata d : ℕ) → Chain lo (
 early lo v ps qs nodata d c h = same-in lo v ps nodata (front lo ps qs c) ∙ taken v ps qs nodata d h
 
 -- ---- a sound list is such a chain
-chain-of : (lo : Float) (b : LegendBand) (bs : List LegendBand) → T (le lo (b .start)) → T (eachBand finiteBand (b ∷ bs)) → T (eachBand startsBelowEnd (b ∷ bs)) → T (eachAfter clears b bs) → Chain lo (b ∷ bs)
+chain-of : (lo : Float) (b : LegendBand) (bs : List LegendBand) → T (le lo (b .start)) → T (eachBand startsBelowEnd (b ∷ bs)) → T (eachAfter clears b bs) → Chain lo (b ∷ bs)
 unfolding eachBand eachAfter
-chain-of lo b [] l p q r =
-    let f : T (finiteBand b) = and-l (finiteBand b) true p in
-    (and-l (finite (b .start)) (finite (b .end)) f, and-r (finite (b .start)) (finite (b .end)) f, l, lt→le (b .start) (b .end) (and-l (startsBelowEnd b) true q), tt)
-chain-of lo b (d ∷ bs) l p q r =
-    let f : T (finiteBand b) = and-l (finiteBand b) (eachBand finiteBand (d ∷ bs)) p in
-    let p' : T (eachBand finiteBand (d ∷ bs)) = and-r (finiteBand b) (eachBand finiteBand (d ∷ bs)) p in
-    let g : T (finiteBand d) = and-l (finiteBand d) (eachBand finiteBand bs) p' in (
-      and-l (finite (b .start)) (finite (b .end)) f,
-      and-r (finite (b .start)) (finite (b .end)) f,
+chain-of lo b [] l q r = (l, lt→le (b .start) (b .end) (and-l (startsBelowEnd b) true q), tt)
+chain-of lo b (d ∷ bs) l q r =
+    let starts : T (startsBelowEnd b) = and-l (startsBelowEnd b) (eachBand startsBelowEnd (d ∷ bs)) q in
+    let later : T (eachBand startsBelowEnd (d ∷ bs)) = and-r (startsBelowEnd b) (eachBand startsBelowEnd (d ∷ bs)) q in (
       l,
-      lt→le (b .start) (b .end) (and-l (startsBelowEnd b) (eachBand startsBelowEnd (d ∷ bs)) q),
-      chain-of (b .end) d bs
-          (end-start b d f g (and-l (clears b d) (eachAfter clears d bs) r))
-          p' (and-r (startsBelowEnd b) (eachBand startsBelowEnd (d ∷ bs)) q) (and-r (clears b d) (eachAfter clears d bs) r),
+      lt→le (b .start) (b .end) starts,
+      chain-of (b .end) d bs (end-start b d starts (and-l (startsBelowEnd d) (eachBand startsBelowEnd bs) later) (and-l (clears b d) (eachAfter clears d bs) r)) later (and-r (clears b d) (eachAfter clears d bs) r),
     )
 
 module _ (b : LegendBand) (bs : List LegendBand) (s : Sound (b ∷ bs)) (u : UnmappableColors) (v : Float) where
   sound-chain : Chain (b .start) (b ∷ bs)
   unfolding eachNext
-  sound-chain = chain-of (b .start) b bs (le-refl-float (b .start) (finite-real (b .start) start)) (s .ordered .finite) (s .ordered .starts) (s .ordered .apart)
+  sound-chain = chain-of (b .start) b bs (le-refl-float (b .start) (lt-l (b .start) (b .end) first)) (s .disjoint .starts) (s .disjoint .apart)
     where
-      start : T (finite (b .start))
-      start = unfold eachBand in and-l (finite (b .start)) (finite (b .end)) (and-l (finiteBand b) (eachBand finiteBand bs) (s .ordered .finite))
+      first : T (startsBelowEnd b)
+      first = unfold eachBand in and-l (startsBelowEnd b) (eachBand startsBelowEnd bs) (s .disjoint .starts)
 
   pub edges-law : T (not (isNan v)) → (i : Bool) → edged u b (lastOf b bs) (record { value = v; inside = i; color = laneIn (b ∷ bs) v (u .nodata) }) ≡ plainColor (b ∷ bs) u v
   unfolding firstAndLast

@@ -1,4 +1,4 @@
--- The lists of bands for which lanes and plain painting agree: empty, or finite, each band starting below its end, ascending, without overlap, the first and the last at least E wide. Definitions only.
+-- The lists of bands for which lanes and plain painting agree (docs/PROMISES.md, demand 3), the empty list among them. Definitions only.
 use mathlib.Core.Bool.{Bool, true, not, _&&_}
 use mathlib.Core.List.{List, [], _∷_}
 use lib.Dec.{T}
@@ -44,12 +44,19 @@ unfoldable pub firstAndLast : (LegendBand → Bool) → List LegendBand → Bool
 firstAndLast test [] = true
 firstAndLast test (b ∷ bs) = test b && test (lastOf b bs)
 
+-- each band starts below its end, and none starts below the end of the one before
+pub record Disjoint (bands : List LegendBand) : Type 0 where
+  pub starts : T (eachBand startsBelowEnd bands)
+  pub apart : T (eachNext clears bands)
+
+-- and the first and the last are at least E wide: for these the two rules agree, also where a bound is infinite
+pub record Sound (bands : List LegendBand) : Type 0 where
+  pub disjoint : Disjoint bands
+  pub wide : T (firstAndLast wideBand bands)
+
+-- in the user's words: finite, each starting below its end, ascending, without overlap
 pub record Ordered (bands : List LegendBand) : Type 0 where
   pub finite : T (eachBand finiteBand bands)
   pub starts : T (eachBand startsBelowEnd bands)
   pub ascending : T (eachNext ascends bands)
   pub apart : T (eachNext clears bands)
-
-pub record Sound (bands : List LegendBand) : Type 0 where
-  pub ordered : Ordered bands
-  pub wide : T (firstAndLast wideBand bands)

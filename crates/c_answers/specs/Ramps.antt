@@ -3,5 +3,5 @@ use Rattle.colormap.specs.declared.MadeRamp.{MadeRamp}
 use Rattle.c_answers.specs.declared.ramps.LegendRamp.{LegendRamp}
 use Rattle.c_types.specs.Answers.{answerOf}
 
-abbrev pub rampAnswer : MadeRamp → LegendRamp
-rampAnswer m = record { answer = answerOf (m .answer); colors = m .ramp .cmap }
+abbrev pub rampToC : MadeRamp → LegendRamp
+rampToC m = record { answer = answerOf (m .answer); colors = m .ramp .cmap }

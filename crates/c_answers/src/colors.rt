@@ -5,7 +5,7 @@ use color::HexColor;
 use palettes::Palette;
 use refusal::Answer;
 ghost use mathlib.Core.Path.{_≡_};
-ghost use Rattle.c_answers.specs.Colors.{colorAnswer, paletteAnswer};
+ghost use Rattle.c_answers.specs.Colors.{hexToC, paletteToC};
 
 // A colour's word, 0 beside a refusal.
 #[repr(C)]
@@ -22,28 +22,28 @@ pub struct LegendPalette {
     pub count: usize,
 }
 
-pub fn hex_told(found: HexColor) -> LegendColor
-    ensures { λ r. ⌜ r ≡ colorAnswer found ⌝ }
+pub fn hex_to_c(found: HexColor) -> LegendColor
+    ensures { λ r. ⌜ r ≡ hexToC found ⌝ }
 {
     match found {
         HexColor::Made(c) => LegendColor {
-            answer: answer::told(Answer::Done),
+            answer: answer::to_c(Answer::Done),
             color: c.to_bits(),
         },
         HexColor::Refused(why) => LegendColor {
-            answer: answer::told(Answer::Refused(why)),
+            answer: answer::to_c(Answer::Refused(why)),
             color: 0,
         },
     }
 }
 
-pub fn palette_told(chosen: Palette) -> LegendPalette
-    ensures { λ r. ⌜ r ≡ paletteAnswer chosen ⌝ }
+pub fn palette_to_c(chosen: Palette) -> LegendPalette
+    ensures { λ r. ⌜ r ≡ paletteToC chosen ⌝ }
 {
     let refused = chosen.answer;
     let colors = chosen.colors;
     LegendPalette {
-        answer: answer::told(refused),
+        answer: answer::to_c(refused),
         colors,
         count: chosen.count,
     }

@@ -10,7 +10,7 @@ pub struct LegendKey {
     pub whole: u32,
 }
 
-pub fn key_told(cut: Truncated) -> LegendKey
+pub fn key_to_c(cut: Truncated) -> LegendKey
     ensures { λ r. ⌜ r ≡ keyOf cut ⌝ }
 {
     match cut {

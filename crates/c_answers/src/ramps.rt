@@ -3,7 +3,7 @@ use c_types::answer;
 use c_types::answer::LegendAnswer;
 use colormap::MadeRamp;
 ghost use mathlib.Core.Path.{_≡_};
-ghost use Rattle.c_answers.specs.Ramps.{rampAnswer};
+ghost use Rattle.c_answers.specs.Ramps.{rampToC};
 
 // A ramp's 256 colours, all 0 beside a refusal.
 #[repr(C)]
@@ -12,14 +12,14 @@ pub struct LegendRamp {
     pub colors: [u32; 256],
 }
 
-pub fn ramp_told(made: MadeRamp) -> LegendRamp
-    ensures { λ r. ⌜ r ≡ rampAnswer made ⌝ }
+pub fn ramp_to_c(made: MadeRamp) -> LegendRamp
+    ensures { λ r. ⌜ r ≡ rampToC made ⌝ }
 {
     let refused = made.answer;
     let ramp = made.ramp;
     let colors = ramp.cmap;
     LegendRamp {
-        answer: answer::told(refused),
+        answer: answer::to_c(refused),
         colors,
     }
 }

@@ -1,15 +1,13 @@
 // What a legend is used for: the colour of a sample, the whole range of its values, the list of its colours.
 use crate::colors::LegendColor;
 use apply::ColorList;
-use c_settings::forms::Form;
 use c_types::answer;
 use c_types::answer::LegendAnswer;
 use pixel_color::PixelColor;
 use refusal::Answer;
-use refusal::Index;
 use value_range::TotalRange;
 ghost use mathlib.Core.Path.{_≡_};
-ghost use Rattle.c_answers.specs.Uses.{pixelAnswer, pixelUnless, rangeAnswer, rangeUnless, listUnless};
+ghost use Rattle.c_answers.specs.Uses.{pixelToC, rangeToC, listToC};
 
 // The whole range of a legend's values, 0 and 0 beside a refusal.
 #[repr(C)]
@@ -26,75 +24,77 @@ pub struct LegendColorList {
     pub colors: [u32; 256],
 }
 
-fn pixel_told(pixel: PixelColor) -> LegendColor
-    ensures { λ r. ⌜ r ≡ pixelAnswer pixel ⌝ }
+// A call's own arguments are refused by `first`, before anything else is.
+
+fn pixel_alone(pixel: PixelColor) -> LegendColor
+    ensures { λ r. ⌜ r ≡ pixelToC Answer.Done pixel ⌝ }
 {
     match pixel {
         PixelColor::Color(color) => LegendColor {
-            answer: answer::told(Answer::Done),
+            answer: answer::to_c(Answer::Done),
             color,
         },
         PixelColor::Refused(why) => LegendColor {
-            answer: answer::told(Answer::Refused(why)),
+            answer: answer::to_c(Answer::Refused(why)),
             color: 0,
         },
     }
 }
 
-pub fn pixel_unless(form: Form, pixel: PixelColor) -> LegendColor
-    ensures { λ r. ⌜ r ≡ pixelUnless form pixel ⌝ }
+pub fn pixel_to_c(first: Answer, pixel: PixelColor) -> LegendColor
+    ensures { λ r. ⌜ r ≡ pixelToC first pixel ⌝ }
 {
-    match form {
-        Form::Refused(number) => LegendColor {
-            answer: answer::placed(number, Index::Absent),
+    match first {
+        Answer::Refused(_) => LegendColor {
+            answer: answer::to_c(first),
             color: 0,
         },
-        Form::Sound => pixel_told(pixel),
+        Answer::Done => pixel_alone(pixel),
     }
 }
 
-fn range_told(range: TotalRange) -> LegendValueRange
-    ensures { λ r. ⌜ r ≡ rangeAnswer range ⌝ }
+fn range_alone(range: TotalRange) -> LegendValueRange
+    ensures { λ r. ⌜ r ≡ rangeToC Answer.Done range ⌝ }
 {
     match range {
         TotalRange::Range(found) => LegendValueRange {
-            answer: answer::told(Answer::Done),
+            answer: answer::to_c(Answer::Done),
             start: found.start,
             end: found.end,
         },
         TotalRange::Refused(why) => LegendValueRange {
-            answer: answer::told(Answer::Refused(why)),
+            answer: answer::to_c(Answer::Refused(why)),
             start: 0.0,
             end: 0.0,
         },
     }
 }
 
-pub fn range_unless(form: Form, range: TotalRange) -> LegendValueRange
-    ensures { λ r. ⌜ r ≡ rangeUnless form range ⌝ }
+pub fn range_to_c(first: Answer, range: TotalRange) -> LegendValueRange
+    ensures { λ r. ⌜ r ≡ rangeToC first range ⌝ }
 {
-    match form {
-        Form::Refused(number) => LegendValueRange {
-            answer: answer::placed(number, Index::Absent),
+    match first {
+        Answer::Refused(_) => LegendValueRange {
+            answer: answer::to_c(first),
             start: 0.0,
             end: 0.0,
         },
-        Form::Sound => range_told(range),
+        Answer::Done => range_alone(range),
     }
 }
 
-pub fn list_unless(form: Form, list: ColorList) -> LegendColorList
-    ensures { λ r. ⌜ r ≡ listUnless form list ⌝ }
+pub fn list_to_c(first: Answer, list: ColorList) -> LegendColorList
+    ensures { λ r. ⌜ r ≡ listToC first list ⌝ }
 {
-    let refused = list.answer;
+    let given = list.answer;
     let colors = list.colors;
-    match form {
-        Form::Refused(number) => LegendColorList {
-            answer: answer::placed(number, Index::Absent),
+    match first {
+        Answer::Refused(_) => LegendColorList {
+            answer: answer::to_c(first),
             colors: [0u32; 256],
         },
-        Form::Sound => LegendColorList {
-            answer: answer::told(refused),
+        Answer::Done => LegendColorList {
+            answer: answer::to_c(given),
             colors,
         },
     }

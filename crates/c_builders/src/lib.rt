@@ -5,7 +5,7 @@ use banded::MadeBanded;
 use bands::LegendBand;
 use c_records::record;
 use c_records::record::LegendMade;
-use c_settings::forms;
+use c_settings::refusals;
 use c_settings::settings;
 use c_settings::settings::LegendSettings;
 use colormap::ProcessedColorMap;
@@ -18,8 +18,8 @@ ghost use Rattle.banded.specs.Given.{withBandsGiven};
 ghost use Rattle.catgegoric.specs.Made.{forValues, forValuesFromRamp, forValueRange, forValueRangeFromRamp};
 ghost use Rattle.legend_builders.specs.Building.{madeLinear, madeBanded, madeCategoric};
 ghost use Rattle.c_settings.specs.Settings.{settingsOf};
-ghost use Rattle.c_settings.specs.Forms.{settingsForm};
-ghost use Rattle.c_records.specs.Records.{madeUnless};
+ghost use Rattle.c_settings.specs.Refusals.{settingsRefusal};
+ghost use Rattle.c_records.specs.Records.{madeToC};
 
 #[no_mangle]
 pub extern "C" fn legend_create_linear(
@@ -28,11 +28,11 @@ pub extern "C" fn legend_create_linear(
     end: f32,
     settings: LegendSettings,
 ) -> LegendMade
-    ensures { λ r. ⌜ r ≡ madeUnless (settingsForm settings) (madeLinear (linearOfList start end (now (colors .entry))) (settingsOf settings)) ⌝ }
+    ensures { λ r. ⌜ r ≡ madeToC (settingsRefusal settings) (madeLinear (linearOfList start end (now (colors .entry))) (settingsOf settings)) ⌝ }
 {
     let config = settings::settings_of(settings);
     let made = legend_builders::create_linear(colors, start, end, config);
-    record::made_unless(forms::settings_form(settings), made)
+    record::made_to_c(refusals::settings_refusal(settings), made)
 }
 
 #[no_mangle]
@@ -42,12 +42,12 @@ pub extern "C" fn legend_create_linear_from_ramp(
     end: f32,
     settings: LegendSettings,
 ) -> LegendMade
-    ensures { λ r. ⌜ r ≡ madeUnless (settingsForm settings) (madeLinear (linearOfRamp start end (now (ramp .entry))) (settingsOf settings)) ⌝ }
+    ensures { λ r. ⌜ r ≡ madeToC (settingsRefusal settings) (madeLinear (linearOfRamp start end (now (ramp .entry))) (settingsOf settings)) ⌝ }
 {
     let map = ProcessedColorMap { cmap: *ramp };
     let config = settings::settings_of(settings);
     let made = legend_builders::create_linear_from_ramp(map, start, end, config);
-    record::made_unless(forms::settings_form(settings), made)
+    record::made_to_c(refusals::settings_refusal(settings), made)
 }
 
 #[no_mangle]
@@ -58,11 +58,11 @@ pub extern "C" fn legend_create_banded(
     end: f32,
     settings: LegendSettings,
 ) -> LegendMade
-    ensures { λ r. ⌜ r ≡ madeUnless (settingsForm settings) (madeBanded (withEqualBands count start end (now (colors .entry))) (settingsOf settings)) ⌝ }
+    ensures { λ r. ⌜ r ≡ madeToC (settingsRefusal settings) (madeBanded (withEqualBands count start end (now (colors .entry))) (settingsOf settings)) ⌝ }
 {
     let config = settings::settings_of(settings);
     let made = legend_builders::create_banded(count, colors, start, end, config);
-    record::made_unless(forms::settings_form(settings), made)
+    record::made_to_c(refusals::settings_refusal(settings), made)
 }
 
 #[no_mangle]
@@ -73,11 +73,11 @@ pub extern "C" fn legend_create_banded_from_ramp(
     end: f32,
     settings: LegendSettings,
 ) -> LegendMade
-    ensures { λ r. ⌜ r ≡ madeUnless (settingsForm settings) (madeBanded (withEqualBands count start end (rampColors count (now (ramp .entry)))) (settingsOf settings)) ⌝ }
+    ensures { λ r. ⌜ r ≡ madeToC (settingsRefusal settings) (madeBanded (withEqualBands count start end (rampColors count (now (ramp .entry)))) (settingsOf settings)) ⌝ }
 {
     let config = settings::settings_of(settings);
     let made = legend_builders::create_banded_from_ramp(count, ramp, start, end, config);
-    record::made_unless(forms::settings_form(settings), made)
+    record::made_to_c(refusals::settings_refusal(settings), made)
 }
 
 #[no_mangle]
@@ -86,11 +86,11 @@ pub extern "C" fn legend_create_banded_manual_ranges(
     ranges: ValueRanges,
     settings: LegendSettings,
 ) -> LegendMade
-    ensures { λ r. ⌜ r ≡ madeUnless (settingsForm settings) (madeBanded (withManualRanges ranges (now (colors .entry))) (settingsOf settings)) ⌝ }
+    ensures { λ r. ⌜ r ≡ madeToC (settingsRefusal settings) (madeBanded (withManualRanges ranges (now (colors .entry))) (settingsOf settings)) ⌝ }
 {
     let config = settings::settings_of(settings);
     let made = legend_builders::create_banded_manual_ranges(colors, ranges, config);
-    record::made_unless(forms::settings_form(settings), made)
+    record::made_to_c(refusals::settings_refusal(settings), made)
 }
 
 #[no_mangle]
@@ -99,11 +99,11 @@ pub extern "C" fn legend_create_banded_manual_ranges_from_ramp(
     ranges: ValueRanges,
     settings: LegendSettings,
 ) -> LegendMade
-    ensures { λ r. ⌜ r ≡ madeUnless (settingsForm settings) (madeBanded (withManualRanges ranges (rampColors (ranges .count) (now (ramp .entry)))) (settingsOf settings)) ⌝ }
+    ensures { λ r. ⌜ r ≡ madeToC (settingsRefusal settings) (madeBanded (withManualRanges ranges (rampColors (ranges .count) (now (ramp .entry)))) (settingsOf settings)) ⌝ }
 {
     let config = settings::settings_of(settings);
     let made = legend_builders::create_banded_manual_ranges_from_ramp(ramp, ranges, config);
-    record::made_unless(forms::settings_form(settings), made)
+    record::made_to_c(refusals::settings_refusal(settings), made)
 }
 
 // Bands as given. A lent list of structs, so it is proved by hand.
@@ -112,17 +112,17 @@ pub extern "C" fn legend_create_banded_as_given(
     bands: &[LegendBand],
     settings: LegendSettings,
 ) -> LegendMade
-    ensures { λ r. ⌜ r ≡ madeUnless (settingsForm settings) (madeBanded (withBandsGiven (now (bands .entry))) (settingsOf settings)) ⌝ }
+    ensures { λ r. ⌜ r ≡ madeToC (settingsRefusal settings) (madeBanded (withBandsGiven (now (bands .entry))) (settingsOf settings)) ⌝ }
 {
     bands_made(Banded::new(bands), settings)
 }
 
 fn bands_made(given: MadeBanded, settings: LegendSettings) -> LegendMade
-    ensures { λ r. ⌜ r ≡ madeUnless (settingsForm settings) (madeBanded given (settingsOf settings)) ⌝ }
+    ensures { λ r. ⌜ r ≡ madeToC (settingsRefusal settings) (madeBanded given (settingsOf settings)) ⌝ }
 {
     let config = settings::settings_of(settings);
     let made = legend_builders::made_banded(given, config);
-    record::made_unless(forms::settings_form(settings), made)
+    record::made_to_c(refusals::settings_refusal(settings), made)
 }
 
 #[no_mangle]
@@ -131,11 +131,11 @@ pub extern "C" fn legend_create_categoric_for_value_list(
     values: &[i64],
     settings: LegendSettings,
 ) -> LegendMade
-    ensures { λ r. ⌜ r ≡ madeUnless (settingsForm settings) (madeCategoric (forValues (now (values .entry)) (now (colors .entry))) (settingsOf settings)) ⌝ }
+    ensures { λ r. ⌜ r ≡ madeToC (settingsRefusal settings) (madeCategoric (forValues (now (values .entry)) (now (colors .entry))) (settingsOf settings)) ⌝ }
 {
     let config = settings::settings_of(settings);
     let made = legend_builders::create_categoric_for_value_list(colors, values, config);
-    record::made_unless(forms::settings_form(settings), made)
+    record::made_to_c(refusals::settings_refusal(settings), made)
 }
 
 #[no_mangle]
@@ -144,11 +144,11 @@ pub extern "C" fn legend_create_categoric_for_value_list_from_ramp(
     values: &[i64],
     settings: LegendSettings,
 ) -> LegendMade
-    ensures { λ r. ⌜ r ≡ madeUnless (settingsForm settings) (madeCategoric (forValuesFromRamp (now (values .entry)) (now (ramp .entry))) (settingsOf settings)) ⌝ }
+    ensures { λ r. ⌜ r ≡ madeToC (settingsRefusal settings) (madeCategoric (forValuesFromRamp (now (values .entry)) (now (ramp .entry))) (settingsOf settings)) ⌝ }
 {
     let config = settings::settings_of(settings);
     let made = legend_builders::create_categoric_for_value_list_from_ramp(ramp, values, config);
-    record::made_unless(forms::settings_form(settings), made)
+    record::made_to_c(refusals::settings_refusal(settings), made)
 }
 
 #[no_mangle]
@@ -158,11 +158,11 @@ pub extern "C" fn legend_create_categoric_for_value_range(
     end: i64,
     settings: LegendSettings,
 ) -> LegendMade
-    ensures { λ r. ⌜ r ≡ madeUnless (settingsForm settings) (madeCategoric (forValueRange start end (now (colors .entry))) (settingsOf settings)) ⌝ }
+    ensures { λ r. ⌜ r ≡ madeToC (settingsRefusal settings) (madeCategoric (forValueRange start end (now (colors .entry))) (settingsOf settings)) ⌝ }
 {
     let config = settings::settings_of(settings);
     let made = legend_builders::create_categoric_for_value_range(colors, start, end, config);
-    record::made_unless(forms::settings_form(settings), made)
+    record::made_to_c(refusals::settings_refusal(settings), made)
 }
 
 #[no_mangle]
@@ -172,7 +172,7 @@ pub extern "C" fn legend_create_categoric_for_value_range_from_ramp(
     end: i64,
     settings: LegendSettings,
 ) -> LegendMade
-    ensures { λ r. ⌜ r ≡ madeUnless (settingsForm settings) (madeCategoric (forValueRangeFromRamp start end (now (ramp .entry))) (settingsOf settings)) ⌝ }
+    ensures { λ r. ⌜ r ≡ madeToC (settingsRefusal settings) (madeCategoric (forValueRangeFromRamp start end (now (ramp .entry))) (settingsOf settings)) ⌝ }
 {
     let config = settings::settings_of(settings);
     let made = legend_builders::create_categoric_for_value_range_from_ramp(
@@ -181,5 +181,5 @@ pub extern "C" fn legend_create_categoric_for_value_range_from_ramp(
         end,
         config,
     );
-    record::made_unless(forms::settings_form(settings), made)
+    record::made_to_c(refusals::settings_refusal(settings), made)
 }

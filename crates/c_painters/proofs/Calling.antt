@@ -1,32 +1,53 @@
--- A painting as C calls it, from what the code found: its arguments refused, or a painting told. Assumes nothing.
+-- A painting as C calls it, from what the code found: its own arguments refused, or a painting's answer. Assumes nothing.
 use Prim.Native.Nat.{ℕ}
-use mathlib.Core.Path.{_≡_, refl}
+use mathlib.Core.Path.{_≡_, refl, sym, ap, ap₂, subst, _∙_}
 use mathlib.Core.List.{List}
 use lib.Ieee.{Float}
+use lib.ListN.{length}
+use Rattle.refusal.specs.declared.Refusal.{Refusal}
 use Rattle.refusal.specs.declared.Answer.{Answer}
-use Rattle.refusal.specs.declared.Index.the-variants.{Absent}
+use Rattle.refusal.specs.declared.Answer.the-variants.{Done, Refused}
 use Rattle.cast.specs.declared.Nodata.{Nodata}
-use Rattle.painting.specs.Contracts.{Painter, PlainPainting, LanePainting}
+use Rattle.painting.specs.Contracts.{plainRefusal, laneRefusal, Painter, refusedFirst, plainAnswer, laneAnswer, PlainPainting, LanePainting}
+use Rattle.painting.proofs.Refusals.{plain-stored, lane-stored}
+use Rattle.painting.proofs.Whole.{plain-refused, lane-refused}
 use Rattle.legend.specs.declared.Legend.{Legend}
 use Rattle.legend.specs.Painters.{painter}
 use Rattle.c_types.specs.declared.answer.LegendAnswer.{LegendAnswer}
-use Rattle.c_settings.specs.declared.forms.Form.{Form}
-use Rattle.c_settings.specs.declared.forms.Form.the-variants.{Sound, Refused}
-use Rattle.c_types.specs.Answers.{place, answerOf}
-use Rattle.c_painters.specs.Painting as call
-use Rattle.c_painters.specs.Painting.{PlainCall, LaneCall}
+use Rattle.c_types.specs.Answers.{answerOf}
+use Rattle.c_painters.specs.Painting.{PlainOutcome, LaneOutcome}
 
-module _ {form : Form} {xs : List Float} {out : List ℕ} {result : LegendAnswer} where
-  pub plain-refused : {p : Painter} {n : ℕ} → form ≡ Refused n → result ≡ place n Absent → PlainCall form p xs out result out
-  plain-refused e r = call.PlainCall.refused e r refl
+-- the call's own arguments are refused by `asked`, and the legend and the nodata value are what its contract names
+module _ (asked : Answer) (l : Legend) (v : Nodata) {first : Answer} (f : first ≡ asked) where
+  abbrev p : Painter
+  p = refusedFirst asked (painter l v)
 
-  pub lanes-refused : {p : Painter} {lanes n : ℕ} {scratch : List ℕ} → form ≡ Refused n → result ≡ place n Absent → LaneCall form p lanes xs out scratch result out scratch
-  lanes-refused e r = call.LaneCall.refused e r refl refl
+  first-stored : {why : Refusal} → first ≡ Refused why → p .stored ≡ Refused why
+  first-stored e = ap (λ a. refusedFirst a (painter l v) .stored) (sym f ∙ e)
+
+  module _ {why : Refusal} (e : first ≡ Refused why) {xs : List Float} {out : List ℕ} {result : LegendAnswer} (r : result ≡ answerOf first) where
+    pub plain-arguments : PlainOutcome p xs out result out
+    plain-arguments =
+        let a : Refused why ≡ plainAnswer p xs out = plain-stored (length xs) (length out) (first-stored e) in
+        record { answer = r ∙ ap answerOf (e ∙ a); painting = plain-refused p xs out refl refl (sym a) }
+
+    pub lane-arguments : {L : ℕ} {scratch : List ℕ} → LaneOutcome p L xs out scratch result out scratch
+    lane-arguments {L} {scratch} =
+        let a : Refused why ≡ laneAnswer p L xs out scratch = lane-stored L (length scratch) (length xs) (length out) (first-stored e) in
+        record { answer = r ∙ ap answerOf (e ∙ a); painting = lane-refused p xs out refl L scratch refl (sym a) }
 
   -- the painter of the legend and the nodata value that the code made is that of those that the contract names
-  module _ {l l' : Legend} {v v' : Nodata} {a : Answer} {out' : List ℕ} (e : form ≡ Sound) (el : l ≡ l') (ev : v ≡ v') (r : result ≡ answerOf a) where
-    pub plain-painted : PlainPainting (painter l v) xs out a out' → PlainCall form (painter l' v') xs out result out'
-    plain-painted h = call.PlainCall.painted e r (rw (el, ev) at h)
+  module _ (e : first ≡ Done) {l' : Legend} {v' : Nodata} (el : l' ≡ l) (ev : v' ≡ v) where
+    same : painter l' v' ≡ p
+    same = ap₂ painter el ev ∙ ap (λ b. refusedFirst b (painter l v)) (sym e ∙ f)
 
-    pub lanes-painted : {lanes : ℕ} {scratch scratch' : List ℕ} → LanePainting (painter l v) lanes xs out scratch a out' scratch' → LaneCall form (painter l' v') lanes xs out scratch result out' scratch'
-    lanes-painted h = call.LaneCall.painted e r (rw (el, ev) at h)
+    pub plain-painted : (a : Answer) {xs : List Float} {out out' : List ℕ} {result : LegendAnswer} → result ≡ answerOf a → PlainPainting (painter l' v') xs out a out' → PlainOutcome p xs out result out'
+    plain-painted a {xs} {out} {out'} {result} r h =
+        subst (λ q. PlainOutcome q xs out result out') same
+        (record { answer = r ∙ ap answerOf (h .answered); painting = subst (λ b. PlainPainting (painter l' v') xs out b out') (h .answered) h })
+
+    pub lanes-painted : (a : Answer) {L : ℕ} {xs : List Float} {out out' scratch scratch' : List ℕ} {result : LegendAnswer} → result ≡ answerOf a
+        → LanePainting (painter l' v') L xs out scratch a out' scratch' → LaneOutcome p L xs out scratch result out' scratch'
+    lanes-painted a {L} {xs} {out} {out'} {scratch} {scratch'} {result} r h =
+        subst (λ q. LaneOutcome q L xs out scratch result out' scratch') same
+        (record { answer = r ∙ ap answerOf (h .answered); painting = subst (λ b. LanePainting (painter l' v') L xs out scratch b out' scratch') (h .answered) h })

@@ -1,20 +1,34 @@
--- Painting as C calls it: where the call's own arguments are refused, that is the answer and the buffers are as they were; else it is a painting of docs/RULES.md. Definitions only.
+-- Painting as C calls it: by the legend that is lent, refused first by what the call's own flags and kind are refused by; the answer as C reads it. Definitions only.
 use Prim.Native.Nat.{ℕ}
 use mathlib.Core.Path.{_≡_}
 use mathlib.Core.List.{List}
+use lib.IntN.{ℤ}
 use lib.Ieee.{Float}
-use Rattle.refusal.specs.declared.Answer.{Answer}
-use Rattle.refusal.specs.declared.Index.the-variants.{Absent}
-use Rattle.painting.specs.Contracts.{Painter, PlainPainting, LanePainting}
+use Rattle.cast.specs.declared.Nodata.{Nodata}
+use Rattle.painting.specs.Contracts.{Painter, refusedFirst, plainAnswer, laneAnswer, PlainPainting, LanePainting}
+use Rattle.banded.specs.declared.Banded.{Banded}
+use Rattle.legend.specs.declared.Legend.{Legend}
+use Rattle.legend.specs.Painters.{painter}
+use Rattle.legend_head.specs.Lent.{lentLegend}
 use Rattle.c_types.specs.declared.answer.LegendAnswer.{LegendAnswer}
-use Rattle.c_settings.specs.declared.forms.Form.{Form}
-use Rattle.c_settings.specs.declared.forms.Form.the-variants.{Sound, Refused}
-use Rattle.c_types.specs.Answers.{place, answerOf}
+use Rattle.c_types.specs.Answers.{answerOf}
+use Rattle.c_settings.specs.Refusals.{useRefusal}
+use Rattle.c_records.specs.declared.head.LegendHead.{LegendHead}
+use Rattle.c_records.specs.Heads.{headGiven}
 
-pub data PlainCall (form : Form) (p : Painter) (xs : List Float) (out : List ℕ) (result : LegendAnswer) (out' : List ℕ) : Type 0 where
-  refused : {n : ℕ} → form ≡ Refused n → result ≡ place n Absent → out' ≡ out → PlainCall form p xs out result out'
-  painted : {a : Answer} → form ≡ Sound → result ≡ answerOf a → PlainPainting p xs out a out' → PlainCall form p xs out result out'
+-- the legend that is lent
+abbrev pub legendLent : LegendHead → Banded → (cmap : List ℕ) (keys : List ℤ) (colors lookup : List ℕ) → Legend
+legendLent head banded cmap keys colors lookup = lentLegend (headGiven head banded) cmap keys colors lookup
 
-pub data LaneCall (form : Form) (p : Painter) (lanes : ℕ) (xs : List Float) (out scratch : List ℕ) (result : LegendAnswer) (out' scratch' : List ℕ) : Type 0 where
-  refused : {n : ℕ} → form ≡ Refused n → result ≡ place n Absent → out' ≡ out → scratch' ≡ scratch → LaneCall form p lanes xs out scratch result out' scratch'
-  painted : {a : Answer} → form ≡ Sound → result ≡ answerOf a → LanePainting p lanes xs out scratch a out' scratch' → LaneCall form p lanes xs out scratch result out' scratch'
+abbrev pub painterLent : LegendHead → Banded → (cmap : List ℕ) (keys : List ℤ) (colors lookup : List ℕ) → (nodataGiven : ℕ) → Nodata → Painter
+painterLent head banded cmap keys colors lookup nodataGiven nodata =
+    refusedFirst (useRefusal (head .settings) (head .kind) nodataGiven) (painter (legendLent head banded cmap keys colors lookup) nodata)
+
+-- what a call leaves: its result, and the painting that this result is the answer of
+pub record PlainOutcome (p : Painter) (xs : List Float) (out : List ℕ) (result : LegendAnswer) (out' : List ℕ) : Type 0 where
+  pub answer : result ≡ answerOf (plainAnswer p xs out)
+  pub painting : PlainPainting p xs out (plainAnswer p xs out) out'
+
+pub record LaneOutcome (p : Painter) (L : ℕ) (xs : List Float) (out scratch : List ℕ) (result : LegendAnswer) (out' scratch' : List ℕ) : Type 0 where
+  pub answer : result ≡ answerOf (laneAnswer p L xs out scratch)
+  pub painting : LanePainting p L xs out scratch (laneAnswer p L xs out scratch) out' scratch'

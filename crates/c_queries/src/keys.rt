@@ -10,5 +10,5 @@ ghost use Rattle.c_answers.specs.Keys.{keyOf};
 pub extern "C" fn legend_to_i64(x: f32) -> LegendKey
     ensures { λ r. ⌜ r ≡ keyOf (truncated x) ⌝ }
 {
-    keys::key_told(cast::to_i64(x))
+    keys::key_to_c(cast::to_i64(x))
 }

@@ -4,22 +4,22 @@ use c_answers::ramps::LegendRamp;
 ghost use mathlib.Core.Path.{_≡_};
 ghost use Rattle.colormap.specs.Made.{rampOfList, rampOfPreset};
 ghost use Rattle.lookup.specs.Entries.{plainEntry, laneEntry, entryColor};
-ghost use Rattle.c_answers.specs.Ramps.{rampAnswer};
+ghost use Rattle.c_answers.specs.Ramps.{rampToC};
 
 // A list of colours spread over a ramp.
 #[no_mangle]
 pub extern "C" fn legend_ramp_from_list(colors: &[u32]) -> LegendRamp
-    ensures { λ r. ⌜ r ≡ rampAnswer (rampOfList (now (colors .entry))) ⌝ }
+    ensures { λ r. ⌜ r ≡ rampToC (rampOfList (now (colors .entry))) ⌝ }
 {
-    ramps::ramp_told(colormap::create(colors))
+    ramps::ramp_to_c(colormap::create(colors))
 }
 
 // A palette spread over a ramp.
 #[no_mangle]
 pub extern "C" fn legend_ramp_from_palette(number: usize) -> LegendRamp
-    ensures { λ r. ⌜ r ≡ rampAnswer (rampOfPreset number) ⌝ }
+    ensures { λ r. ⌜ r ≡ rampToC (rampOfPreset number) ⌝ }
 {
-    ramps::ramp_told(colormap::create_for_preset(number))
+    ramps::ramp_to_c(colormap::create_for_preset(number))
 }
 
 // The colour of a fraction. The ramp is lent: by value it would be copied at each call.

@@ -8,7 +8,7 @@ use c_records::head;
 use c_records::head::LegendHead;
 use c_records::record;
 use c_records::record::LegendRecord;
-use c_settings::forms;
+use c_settings::refusals;
 use c_types::samples;
 ghost use mathlib.Core.Path.{_≡_};
 ghost use Rattle.cast.specs.Samples.{ofU8, ofI16};
@@ -16,12 +16,12 @@ ghost use Rattle.cast.specs.Nodata.{nodataU8, nodataI16};
 ghost use Rattle.value_range.specs.ValueRanges.{totalValueRange};
 ghost use Rattle.pixel_color.specs.Values.{colorForValue};
 ghost use Rattle.apply.specs.ColorLists.{colorList};
-ghost use Rattle.c_settings.specs.Forms.{legendForm, useForm};
+ghost use Rattle.c_settings.specs.Refusals.{legendRefusal, useRefusal};
 ghost use Rattle.legend_head.specs.Lent.{lentLegend};
 ghost use Rattle.c_records.specs.Heads.{headGiven};
 ghost use Rattle.c_records.specs.Records.{legendOf};
 ghost use Rattle.c_types.specs.Samples.{nodataIf, nodataIfU8, nodataIfI16};
-ghost use Rattle.c_answers.specs.Uses.{pixelUnless, rangeUnless, listUnless};
+ghost use Rattle.c_answers.specs.Uses.{pixelToC, rangeToC, listToC};
 
 // ---- the colour of a sample, by a legend whose arrays are lent
 
@@ -37,7 +37,7 @@ pub extern "C" fn legend_lent_color_for_f32(
     nodata_given: u32,
     nodata: f32,
 ) -> LegendColor
-    ensures { λ r. ⌜ r ≡ pixelUnless (useForm (head .settings) (head .kind) «nodata_given») (colorForValue (lentLegend (headGiven head banded) (now (cmap .entry)) (now (keys .entry)) (now (colors .entry)) (now (lookup .entry))) (nodataIf «nodata_given» nodata) value) ⌝ }
+    ensures { λ r. ⌜ r ≡ pixelToC (useRefusal (head .settings) (head .kind) «nodata_given») (colorForValue (lentLegend (headGiven head banded) (now (cmap .entry)) (now (keys .entry)) (now (colors .entry)) (now (lookup .entry))) (nodataIf «nodata_given» nodata) value) ⌝ }
 {
     let pixel = pixel_color::color_for_value(
         head::head_given(head, banded),
@@ -48,8 +48,8 @@ pub extern "C" fn legend_lent_color_for_f32(
         value,
         samples::nodata_if(nodata_given, nodata),
     );
-    uses::pixel_unless(
-        forms::use_form(head.settings, head.kind, nodata_given),
+    uses::pixel_to_c(
+        refusals::use_refusal(head.settings, head.kind, nodata_given),
         pixel,
     )
 }
@@ -66,7 +66,7 @@ pub extern "C" fn legend_lent_color_for_u8(
     nodata_given: u32,
     nodata: u8,
 ) -> LegendColor
-    ensures { λ r. ⌜ r ≡ pixelUnless (useForm (head .settings) (head .kind) «nodata_given») (colorForValue (lentLegend (headGiven head banded) (now (cmap .entry)) (now (keys .entry)) (now (colors .entry)) (now (lookup .entry))) (nodataU8 (nodataIfU8 «nodata_given» nodata)) (ofU8 value)) ⌝ }
+    ensures { λ r. ⌜ r ≡ pixelToC (useRefusal (head .settings) (head .kind) «nodata_given») (colorForValue (lentLegend (headGiven head banded) (now (cmap .entry)) (now (keys .entry)) (now (colors .entry)) (now (lookup .entry))) (nodataU8 (nodataIfU8 «nodata_given» nodata)) (ofU8 value)) ⌝ }
 {
     let pixel = pixel_color::color_for_value_u8(
         head::head_given(head, banded),
@@ -77,8 +77,8 @@ pub extern "C" fn legend_lent_color_for_u8(
         value,
         samples::nodata_if_u8(nodata_given, nodata),
     );
-    uses::pixel_unless(
-        forms::use_form(head.settings, head.kind, nodata_given),
+    uses::pixel_to_c(
+        refusals::use_refusal(head.settings, head.kind, nodata_given),
         pixel,
     )
 }
@@ -95,7 +95,7 @@ pub extern "C" fn legend_lent_color_for_i16(
     nodata_given: u32,
     nodata: i16,
 ) -> LegendColor
-    ensures { λ r. ⌜ r ≡ pixelUnless (useForm (head .settings) (head .kind) «nodata_given») (colorForValue (lentLegend (headGiven head banded) (now (cmap .entry)) (now (keys .entry)) (now (colors .entry)) (now (lookup .entry))) (nodataI16 (nodataIfI16 «nodata_given» nodata)) (ofI16 value)) ⌝ }
+    ensures { λ r. ⌜ r ≡ pixelToC (useRefusal (head .settings) (head .kind) «nodata_given») (colorForValue (lentLegend (headGiven head banded) (now (cmap .entry)) (now (keys .entry)) (now (colors .entry)) (now (lookup .entry))) (nodataI16 (nodataIfI16 «nodata_given» nodata)) (ofI16 value)) ⌝ }
 {
     let pixel = pixel_color::color_for_value_i16(
         head::head_given(head, banded),
@@ -106,8 +106,8 @@ pub extern "C" fn legend_lent_color_for_i16(
         value,
         samples::nodata_if_i16(nodata_given, nodata),
     );
-    uses::pixel_unless(
-        forms::use_form(head.settings, head.kind, nodata_given),
+    uses::pixel_to_c(
+        refusals::use_refusal(head.settings, head.kind, nodata_given),
         pixel,
     )
 }
@@ -116,16 +116,19 @@ pub extern "C" fn legend_lent_color_for_i16(
 
 #[no_mangle]
 pub extern "C" fn legend_record_total_value_range(legend: LegendRecord) -> LegendValueRange
-    ensures { λ r. ⌜ r ≡ rangeUnless (legendForm (legend .settings) (legend .kind)) (totalValueRange (legendOf legend)) ⌝ }
+    ensures { λ r. ⌜ r ≡ rangeToC (legendRefusal (legend .settings) (legend .kind)) (totalValueRange (legendOf legend)) ⌝ }
 {
     let range = value_range::total_value_range(record::legend_of(legend));
-    uses::range_unless(forms::legend_form(legend.settings, legend.kind), range)
+    uses::range_to_c(
+        refusals::legend_refusal(legend.settings, legend.kind),
+        range,
+    )
 }
 
 #[no_mangle]
 pub extern "C" fn legend_record_color_list(legend: LegendRecord) -> LegendColorList
-    ensures { λ r. ⌜ r ≡ listUnless (legendForm (legend .settings) (legend .kind)) (colorList (legendOf legend)) ⌝ }
+    ensures { λ r. ⌜ r ≡ listToC (legendRefusal (legend .settings) (legend .kind)) (colorList (legendOf legend)) ⌝ }
 {
     let list = apply::color_list(record::legend_of(legend));
-    uses::list_unless(forms::legend_form(legend.settings, legend.kind), list)
+    uses::list_to_c(refusals::legend_refusal(legend.settings, legend.kind), list)
 }

@@ -9,10 +9,10 @@ use Rattle.colormapper.specs.Settings.{orElse}
 use Rattle.legend.specs.declared.LegendKind.{LegendKind}
 use Rattle.legend.specs.declared.LegendKind.the-variants.{Linear, Banded, CategoricNumeric}
 use Rattle.legend.specs.declared.Legend.{Legend}
-use Rattle.c_settings.specs.declared.forms.Form.the-variants.{Sound}
+use Rattle.refusal.specs.declared.Answer.the-variants.{Done}
 use Rattle.c_settings.specs.Settings.{colorIf, flagOf, givenFlag, settingsOf, flatSettings}
 use Rattle.c_records.specs.Records.{kindOf, kindNumber, legendOf, flat}
-use Rattle.c_settings.specs.Forms.{settingsForm, legendForm}
+use Rattle.c_settings.specs.Refusals.{settingsRefusal, legendRefusal}
 
 color-back : (o : OptionalColor) → colorIf (givenFlag o) (orElse o 0) ≡ o
 color-back (Given c) = refl
@@ -48,6 +48,6 @@ kind-known Linear = refl
 kind-known Banded = refl
 kind-known CategoricNumeric = refl
 
-pub flat-sound : (l : Legend) → legendForm (flat l .settings) (flat l .kind) ≡ Sound
-unfolding legendForm settingsForm flat flatSettings
-flat-sound l = let c = l .«mapping_config» in simp (color-flag (c .«out_of_range_low_color»), color-flag (c .«out_of_range_high_color»), bool-flag (c .«zero_is_nodata»), kind-known (l .kind))
+pub flat-used : (l : Legend) → legendRefusal (flat l .settings) (flat l .kind) ≡ Done
+unfolding legendRefusal settingsRefusal flat flatSettings
+flat-used l = let c = l .«mapping_config» in simp (color-flag (c .«out_of_range_low_color»), color-flag (c .«out_of_range_high_color»), bool-flag (c .«zero_is_nodata»), kind-known (l .kind))

@@ -2,17 +2,16 @@
 use Prim.Native.Nat.{ℕ}
 use mathlib.Core.Bool.{cond}
 use lib.Dec.{eqb}
-use Rattle.refusal.specs.declared.Index.the-variants.{Absent}
+use Rattle.refusal.specs.declared.Answer.{Answer}
+use Rattle.refusal.specs.Outcome.{ifDone, firstOf}
 use Rattle.legend.specs.declared.LegendKind.{LegendKind}
 use Rattle.legend.specs.declared.LegendKind.the-variants.{Linear, Banded, CategoricNumeric}
 use Rattle.legend.specs.declared.Legend.{Legend}
 use Rattle.legend_builders.specs.declared.MadeLegend.{MadeLegend}
 use Rattle.legend.specs.Record.{emptyLegend}
-use Rattle.c_settings.specs.declared.forms.Form.{Form}
-use Rattle.c_settings.specs.declared.forms.Form.the-variants.{Sound, Refused}
 use Rattle.c_records.specs.declared.record.LegendRecord.{LegendRecord}
 use Rattle.c_records.specs.declared.record.LegendMade.{LegendMade}
-use Rattle.c_types.specs.Answers.{place, answerOf}
+use Rattle.c_types.specs.Answers.{answerOf}
 use Rattle.c_settings.specs.Settings.{settingsOf, flatSettings}
 
 -- 0 linear, 1 banded, 2 categoric; the numbers from 3 on are refused before
@@ -30,7 +29,6 @@ kindNumber CategoricNumeric = 2
 unfoldable pub flat : Legend → LegendRecord
 flat l = record { kind = kindNumber (l .kind); settings = flatSettings (l .«mapping_config»); linear = l .linear; banded = l .banded; categoric = l .categoric }
 
--- what a builder made, unless the call's own arguments are refused
-unfoldable pub madeUnless : Form → MadeLegend → LegendMade
-madeUnless Sound made = record { answer = answerOf (made .answer); legend = flat (made .legend) }
-madeUnless (Refused n) made = record { answer = place n Absent; legend = flat emptyLegend }
+-- what a builder made; what the call's own arguments are refused by comes first, with the empty legend
+unfoldable pub madeToC : (first : Answer) → MadeLegend → LegendMade
+madeToC first made = record { answer = answerOf (firstOf first (made .answer)); legend = flat (ifDone first (made .legend) emptyLegend) }

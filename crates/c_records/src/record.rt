@@ -1,6 +1,5 @@
 // A legend as C holds it.
 use banded::Banded;
-use c_settings::forms::Form;
 use c_settings::settings;
 use c_settings::settings::LegendSettings;
 use c_types::answer;
@@ -10,9 +9,9 @@ use legend::Legend;
 use legend::LegendKind;
 use legend_builders::MadeLegend;
 use linear::Linear;
-use refusal::Index;
+use refusal::Answer;
 ghost use mathlib.Core.Path.{_≡_};
-ghost use Rattle.c_records.specs.Records.{kindOf, kindNumber, legendOf, flat, madeUnless};
+ghost use Rattle.c_records.specs.Records.{kindOf, kindNumber, legendOf, flat, madeToC};
 
 // The kind is 0 for linear, 1 for banded, 2 for categoric; of the three records that of the kind alone counts.
 #[repr(C)]
@@ -87,19 +86,19 @@ fn flat(made: Legend) -> LegendRecord
     }
 }
 
-// What a builder made, unless its arguments are refused.
-pub fn made_unless(form: Form, made: MadeLegend) -> LegendMade
-    ensures { λ r. ⌜ r ≡ madeUnless form made ⌝ }
+// What a builder made. The call's own arguments are refused by `first`, before anything else is.
+pub fn made_to_c(first: Answer, made: MadeLegend) -> LegendMade
+    ensures { λ r. ⌜ r ≡ madeToC first made ⌝ }
 {
     let given = made.answer;
     let legend = made.legend;
-    match form {
-        Form::Refused(number) => LegendMade {
-            answer: answer::placed(number, Index::Absent),
-            legend: flat(Legend::default()),
+    match first {
+        Answer::Refused(_) => LegendMade {
+            answer: answer::to_c(first),
+            legend: flat(Legend::empty()),
         },
-        Form::Sound => LegendMade {
-            answer: answer::told(given),
+        Answer::Done => LegendMade {
+            answer: answer::to_c(given),
             legend: flat(legend),
         },
     }

@@ -1,2 +1,2 @@
-pub mod Forms
+pub mod Refusals
 pub mod Settings

@@ -6,9 +6,9 @@ use Rattle.refusal.specs.declared.Index.the-variants.{At, Absent}
 use Rattle.refusal.specs.Table.{answerNumber, answerIndex}
 use Rattle.c_types.specs.declared.answer.LegendAnswer.{LegendAnswer}
 
-abbrev pub place : ℕ → Index → LegendAnswer
-place n (At i) = record { number = n; indexed = 1; index = i }
-place n Absent = record { number = n; indexed = 0; index = 0 }
+abbrev pub withIndex : ℕ → Index → LegendAnswer
+withIndex n (At i) = record { number = n; indexed = 1; index = i }
+withIndex n Absent = record { number = n; indexed = 0; index = 0 }
 
 abbrev pub answerOf : Answer → LegendAnswer
-answerOf a = place (answerNumber a) (answerIndex a)
+answerOf a = withIndex (answerNumber a) (answerIndex a)

@@ -2,7 +2,7 @@
 use refusal::Answer;
 use refusal::Index;
 ghost use mathlib.Core.Path.{_≡_};
-ghost use Rattle.c_types.specs.Answers.{answerOf, place};
+ghost use Rattle.c_types.specs.Answers.{answerOf, withIndex};
 
 // A refusal's number, 0 where nothing is refused, and its index: `indexed` is 1 where the table of refusals names one.
 #[repr(C)]
@@ -13,15 +13,15 @@ pub struct LegendAnswer {
 }
 
 // An answer as C reads it: an enum does not pass to C.
-pub fn told(a: Answer) -> LegendAnswer
+pub fn to_c(a: Answer) -> LegendAnswer
     ensures { λ r. ⌜ r ≡ answerOf a ⌝ }
 {
     let number = a.number();
-    placed(number, a.index())
+    with_index(number, a.index())
 }
 
-pub fn placed(number: u32, i: Index) -> LegendAnswer
-    ensures { λ r. ⌜ r ≡ place number i ⌝ }
+fn with_index(number: u32, i: Index) -> LegendAnswer
+    ensures { λ r. ⌜ r ≡ withIndex number i ⌝ }
 {
     match i {
         Index::At(index) => LegendAnswer {

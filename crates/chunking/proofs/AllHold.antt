@@ -1,7 +1,6 @@
 -- The claim over the cases: antt works each out. Assumes nothing.
 use lib.Dec.{T}
 use lib.Ieee.{add, sub, lt, le, ofBits, isNan}
-use lib.Ieee.Scale.{finite}
 use Rattle.bands.specs.Band.{lastOf}
 use Rattle.bands.specs.PlainRule.{firstBand, edges, plainRule, bandColor, ruleColor}
 use Rattle.lane_edges.specs.Edges.{edged}
@@ -10,5 +9,5 @@ use Rattle.band_lanes.specs.Sound.{eachBand, eachAfter, eachNext, firstAndLast}
 use Rattle.chunking.specs.Cases.{holds, allHold, cases}
 
 pub all-hold : T (allHold cases)
-unfolding allHold holds cases lastOf firstBand edges plainRule bandColor ruleColor edged scanned laneColors eachBand eachAfter eachNext firstAndLast finite add sub lt le isNan ofBits
+unfolding allHold holds cases lastOf firstBand edges plainRule bandColor ruleColor edged scanned laneColors eachBand eachAfter eachNext firstAndLast add sub lt le isNan ofBits
 all-hold = tt

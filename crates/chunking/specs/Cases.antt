@@ -1,4 +1,4 @@
--- That the conditions are met, and needed: lists of bands that keep all of them or all but some, with the chunk of four samples whose first shows it. Definitions only.
+-- That the conditions on bands are met, and that each is needed: lists of bands that keep all of them, or all but one, with the chunk of four samples whose first shows it. Definitions only.
 use Prim.Native.Nat.{ℕ}
 use mathlib.Core.Bool.{Bool, true, false, not, _&&_}
 use mathlib.Core.List.{List, [], _∷_, map}
@@ -9,32 +9,23 @@ use Rattle.colormapper.specs.declared.UnmappableColors.{UnmappableColors}
 use Rattle.bands.specs.declared.LegendBand.{LegendBand}
 use Rattle.bands.specs.PlainRule.{plainColor}
 use Rattle.band_lanes.specs.LaneRule.{laneColors}
-use Rattle.band_lanes.specs.Sound.{finiteBand, startsBelowEnd, ascends, clears, wideBand, eachBand, eachNext, firstAndLast}
+use Rattle.band_lanes.specs.Sound.{startsBelowEnd, clears, wideBand, eachBand, eachNext, firstAndLast}
 
--- which conditions a list keeps
+-- which conditions a list keeps: each band starts below its end; none starts below the end of the one before; the first and the last are wide
 pub record Kept : Type 0 where
-  pub finite : Bool
   pub starts : Bool
-  pub ascending : Bool
   pub apart : Bool
   pub wide : Bool
 
 abbrev pub keptBy : List LegendBand → Kept
-keptBy bands =
-    record {
-      finite = eachBand finiteBand bands;
-      starts = eachBand startsBelowEnd bands;
-      ascending = eachNext ascends bands;
-      apart = eachNext clears bands;
-      wide = firstAndLast wideBand bands;
-    }
+keptBy bands = record { starts = eachBand startsBelowEnd bands; apart = eachNext clears bands; wide = firstAndLast wideBand bands }
 
 abbrev pub sameBool : Bool → Bool → Bool
 sameBool true b = b
 sameBool false b = not b
 
 abbrev pub sameKept : Kept → Kept → Bool
-sameKept x y = (((sameBool (x .finite) (y .finite) && sameBool (x .starts) (y .starts)) && sameBool (x .ascending) (y .ascending)) && sameBool (x .apart) (y .apart)) && sameBool (x .wide) (y .wide)
+sameKept x y = (sameBool (x .starts) (y .starts) && sameBool (x .apart) (y .apart)) && sameBool (x .wide) (y .wide)
 
 -- an f32 by its bits
 abbrev f32 : ℕ → Float
@@ -61,27 +52,33 @@ allHold [] = true
 allHold (c ∷ cs) = holds c && allHold cs
 
 abbrev all : Kept
-all = record { finite = true; starts = true; ascending = true; apart = true; wide = true }
-
-abbrev but-apart : Kept
-but-apart = record { finite = true; starts = true; ascending = true; apart = false; wide = true }
-
-abbrev but-wide : Kept
-but-wide = record { finite = true; starts = true; ascending = true; apart = true; wide = false }
+all = record { starts = true; apart = true; wide = true }
 
 abbrev but-starts : Kept
-but-starts = record { finite = true; starts = false; ascending = false; apart = true; wide = true }
+but-starts = record { starts = false; apart = true; wide = true }
+
+abbrev but-apart : Kept
+but-apart = record { starts = true; apart = false; wide = true }
+
+abbrev but-wide : Kept
+but-wide = record { starts = true; apart = true; wide = false }
 
 unfoldable pub cases : List Case
 cases =
     -- 0 to 1 and 2 to 3 keep all: 0.5 beside 7
     record { bands = band 0x0000_0000 0x3F80_0000 1 ∷ band 0x4000_0000 0x4040_0000 2 ∷ []; kept = all; chunk = 0x3F00_0000 ∷ 0x40E0_0000 ∷ 0x40E0_0000 ∷ 0x40E0_0000 ∷ []; agrees = true }
+    -- 0 to E and E to 2 E, both exactly E wide, keep all: 0.00006 beside 7
+    ∷ record { bands = band 0x0000_0000 0x38D1_B717 1 ∷ band 0x38D1_B717 0x3951_B717 2 ∷ []; kept = all; chunk = 0x387B_A882 ∷ 0x40E0_0000 ∷ 0x40E0_0000 ∷ 0x40E0_0000 ∷ []; agrees = true }
+    -- -infinity to 0 and 0 to infinity keep all: infinity beside 0
+    ∷ record { bands = band 0xFF80_0000 0x0000_0000 1 ∷ band 0x0000_0000 0x7F80_0000 2 ∷ []; kept = all; chunk = 0x7F80_0000 ∷ 0x0000_0000 ∷ 0x0000_0000 ∷ 0x0000_0000 ∷ []; agrees = true }
+    -- 0 to 2, then 5 to 1, which ends below its start, then 1 to 3: 1.5 beside 2.5
+    ∷ record { bands = band 0x0000_0000 0x4000_0000 1 ∷ band 0x40A0_0000 0x3F80_0000 2 ∷ band 0x3F80_0000 0x4040_0000 3 ∷ []; kept = but-starts; chunk = 0x3FC0_0000 ∷ 0x4020_0000 ∷ 0x4020_0000 ∷ 0x4020_0000 ∷ []; agrees = false }
+    -- 0 to 2, then a band with NaN bounds, then 1 to 3: 1.5 beside 2.5
+    ∷ record { bands = band 0x0000_0000 0x4000_0000 1 ∷ band 0x7FC0_0000 0x7FC0_0000 2 ∷ band 0x3F80_0000 0x4040_0000 3 ∷ []; kept = but-starts; chunk = 0x3FC0_0000 ∷ 0x4020_0000 ∷ 0x4020_0000 ∷ 0x4020_0000 ∷ []; agrees = false }
     -- 0 to 2 and 1 to 3 overlap: 1.5 beside 2.5
     ∷ record { bands = band 0x0000_0000 0x4000_0000 1 ∷ band 0x3F80_0000 0x4040_0000 2 ∷ []; kept = but-apart; chunk = 0x3FC0_0000 ∷ 0x4020_0000 ∷ 0x4020_0000 ∷ 0x4020_0000 ∷ []; agrees = false }
     -- the first band, 0 to 0.00005, is narrower than E: 0.00006 beside 7
     ∷ record { bands = band 0x0000_0000 0x3851_B717 1 ∷ band 0x3851_B717 0x3F80_0000 2 ∷ []; kept = but-wide; chunk = 0x387B_A882 ∷ 0x40E0_0000 ∷ 0x40E0_0000 ∷ 0x40E0_0000 ∷ []; agrees = false }
     -- the last band, 1 to 1.00005, is narrower than E: 0.99997 beside 7
     ∷ record { bands = band 0x0000_0000 0x3F80_0000 1 ∷ band 0x3F80_0000 0x3F80_01A3 2 ∷ []; kept = but-wide; chunk = 0x3F7F_FE09 ∷ 0x40E0_0000 ∷ 0x40E0_0000 ∷ 0x40E0_0000 ∷ []; agrees = false }
-    -- 0 to 2, then 5 to 1, which ends below its start, then 1 to 3: 1.5 beside 2.5
-    ∷ record { bands = band 0x0000_0000 0x4000_0000 1 ∷ band 0x40A0_0000 0x3F80_0000 2 ∷ band 0x3F80_0000 0x4040_0000 3 ∷ []; kept = but-starts; chunk = 0x3FC0_0000 ∷ 0x4020_0000 ∷ 0x4020_0000 ∷ 0x4020_0000 ∷ []; agrees = false }
     ∷ []

@@ -5,10 +5,22 @@ use mathlib.Core.List.{List}
 use lib.Dec.{leb, eqb}
 use lib.ListN.{length, getD}
 use Rattle.refusal.specs.declared.Refusal.the-variants.{EmptyText, NotHexColor, NotHexByte}
+use Rattle.refusal.specs.declared.Answer.{Answer}
+use Rattle.refusal.specs.declared.Answer.the-variants as answer
+use Rattle.color.specs.Word.{wordOf}
 use Rattle.color.specs.declared.Hex.{Hex}
 use Rattle.color.specs.declared.Hex.the-variants.{Value, Nothing}
 use Rattle.color.specs.declared.HexColor.{HexColor}
 use Rattle.color.specs.declared.HexColor.the-variants.{Made, Refused}
+
+-- what the answer is, and its colour's word: 0 beside a refusal
+abbrev pub hexAnswer : HexColor → Answer
+hexAnswer (Made color) = answer.Done
+hexAnswer (Refused why) = answer.Refused why
+
+abbrev pub hexWord : HexColor → ℕ
+hexWord (Made color) = wordOf color
+hexWord (Refused why) = 0
 
 -- from the first to the last, both counted
 abbrev pub between : ℕ → ℕ → ℕ → Bool

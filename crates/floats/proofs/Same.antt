@@ -79,7 +79,7 @@ eq→same f (fin s (suc m) e) t n d p q h =
 twice : (w : ℕ) → 2 * w ≡ 1 → ⊥
 twice w h = omega arith
 
-zero-exponent : (e : ℤ) → up e * down e ≡ 1 → e ≡ pos 0
+pub zero-exponent : (e : ℤ) → up e * down e ≡ 1 → e ≡ pos 0
 zero-exponent (pos zero) h = refl
 zero-exponent (pos (suc k)) h = absurd (twice (2 ^ k) (sym (pow-succ' 2 k) ∙ sym (mul-one (2 ^ suc k)) ∙ h))
 zero-exponent (negsuc k) h = absurd (twice (2 ^ k) (sym (pow-succ' 2 k) ∙ sym (one-mul (2 ^ suc k)) ∙ h))

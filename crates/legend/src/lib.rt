@@ -24,7 +24,7 @@ pub struct Legend {
 
 impl Legend {
     // The empty legend: linear, from 0 to 0, over a ramp that is TRANSPARENT throughout.
-    pub fn default() -> Legend
+    pub fn empty() -> Legend
         ensures { λ r. ⌜ r ≡ emptyLegend ⌝ }
     {
         Legend::with_linear(Linear::default(), MappingConfig::default())

@@ -33,7 +33,7 @@ fn made_linear(made: MadeLinear, config: MappingConfig) -> MadeLegend
     if let Answer::Refused(_) = answer {
         return MadeLegend {
             answer,
-            legend: Legend::default(),
+            legend: Legend::empty(),
         };
     }
     let linear = made.linear;
@@ -50,7 +50,7 @@ pub fn made_banded(made: MadeBanded, config: MappingConfig) -> MadeLegend
     if let Answer::Refused(_) = answer {
         return MadeLegend {
             answer,
-            legend: Legend::default(),
+            legend: Legend::empty(),
         };
     }
     let banded = made.banded;
@@ -67,7 +67,7 @@ fn made_categoric(made: MadeCategoric, config: MappingConfig) -> MadeLegend
     if let Answer::Refused(_) = answer {
         return MadeLegend {
             answer,
-            legend: Legend::default(),
+            legend: Legend::empty(),
         };
     }
     let categoric = made.categoric;

@@ -79,15 +79,15 @@ module _ (start end v : Float) (ordered : lt end start ≡ false) where
     unfolding laneColor plainColor
     color-differs cmap u = (ap (ruleColor cmap u) (rule-differs .0), ap (ruleColor cmap u) (rule-differs .1))
 
-  -- THE LAW, for bounds that are f32s, as a record's are: a sample of that fraction is then neither low nor high
-  pub lane-law : (cmap : List ℕ) (u : UnmappableColors) → T (fits binary32 start) → T (fits binary32 end)
-      → (laneColor cmap start end u v ≡ plainColor cmap start end u v) ⊎ OddFraction cmap start end v (laneColor cmap start end u v) (plainColor cmap start end u v)
-  lane-law cmap u f g = go (eqb (toBits binary32 (fraction start end v)) 0x3B00_8080) refl
+  -- THE LAW: the two colours are one, but at that fraction
+  pub lane-law : (cmap : List ℕ) (u : UnmappableColors) → (laneColor cmap start end u v ≡ plainColor cmap start end u v) ⊎ OddFraction start end v
+  lane-law cmap u = go (eqb (toBits binary32 (fraction start end v)) 0x3B00_8080) refl
     where
-      go : (b : Bool) → eqb (toBits binary32 (fraction start end v)) 0x3B00_8080 ≡ b
-          → (laneColor cmap start end u v ≡ plainColor cmap start end u v) ⊎ OddFraction cmap start end v (laneColor cmap start end u v) (plainColor cmap start end u v)
-      go true e =
-          let b = eqb-true (toBits binary32 (fraction start end v)) 0x3B00_8080 e in
-          let d = color-differs b (inside start end v f g b) cmap u in
-          inr (b, d .0, d .1)
+      go : (b : Bool) → eqb (toBits binary32 (fraction start end v)) 0x3B00_8080 ≡ b → (laneColor cmap start end u v ≡ plainColor cmap start end u v) ⊎ OddFraction start end v
+      go true e = inr (eqb-true (toBits binary32 (fraction start end v)) 0x3B00_8080 e)
       go false e = inl (color-same cmap u (eqb-false (toBits binary32 (fraction start end v)) 0x3B00_8080 e))
+
+  -- there they are entry 1 and entry 0, for bounds that are f32s, as a record's are: a sample of that fraction is then neither low nor high
+  pub odd-law : (cmap : List ℕ) (u : UnmappableColors) → T (fits binary32 start) → T (fits binary32 end) → OddFraction start end v
+      → (laneColor cmap start end u v ≡ getD cmap 1 0) × (plainColor cmap start end u v ≡ getD cmap 0 0)
+  odd-law cmap u f g b = color-differs b (inside start end v f g b) cmap u

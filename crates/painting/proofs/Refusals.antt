@@ -10,7 +10,7 @@ use Rattle.refusal.specs.declared.Refusal.the-variants.{OutputLengthDiffers, No
 use Rattle.refusal.specs.declared.Answer.{Answer}
 use Rattle.refusal.specs.declared.Answer.the-variants.{Done, Refused}
 use Rattle.refusal.specs.Outcome.{refuseIf, firstOf}
-use Rattle.refusal.proofs.Outcomes.{passed, not-done}
+use Rattle.refusal.proofs.Outcomes.{passed, first-done}
 use Rattle.painting.specs.Contracts.{lengthRefusal, plainRefusal, laneCount, laneRefusal}
 
 module _ {b : Answer} where
@@ -31,10 +31,6 @@ module _ {b : Answer} where
   lane-sound L s n o e = sym (ap (λ a. laneRefusal a L s n o) e)
 
 -- ---- what no refusal tells
-
-first-done : (a b : Answer) → firstOf a b ≡ Done → (a ≡ Done) × (b ≡ Done)
-first-done Done b e = (refl, e)
-first-done (Refused why) b e = not-done e
 
 pub same-length-of : (n o : ℕ) → lengthRefusal n o ≡ Done → o ≡ n
 same-length-of n o e = eqb-true o n (not-false (eqb o n) (passed (not (eqb o n)) OutputLengthDiffers Done e .0))

@@ -35,13 +35,24 @@ pub record Painter : Type 0 where
   pub plain : Float → ℕ
   pub chunk : List Float → List ℕ
 
+-- the same, but what a call's own arguments are refused by comes first
+abbrev pub refusedFirst : Answer → Painter → Painter
+refusedFirst first p = record { stored = firstOf first (p .stored); simd = p .simd; plain = p .plain; chunk = p .chunk }
+
+-- what a call answers, by the lengths of what it is lent
+abbrev pub plainAnswer : Painter → (xs : List Float) (out : List ℕ) → Answer
+plainAnswer p xs out = plainRefusal (p .stored) (length xs) (length out)
+
+abbrev pub laneAnswer : Painter → (L : ℕ) (xs : List Float) (out scratch : List ℕ) → Answer
+laneAnswer p L xs out scratch = laneRefusal (p .stored) L (length scratch) (length xs) (length out)
+
 -- xs are the raster's samples as f32; out and scratch what the buffers held, out' and scratch' what they hold after the call
 pub record PlainPainting (p : Painter) (xs : List Float) (out : List ℕ) (answer : Answer) (out' : List ℕ) : Type 0 where
-  pub answered : answer ≡ plainRefusal (p .stored) (length xs) (length out)
+  pub answered : answer ≡ plainAnswer p xs out
   pub output : out' ≡ ifDone answer (plainPainted (p .plain) xs) out
 
 -- a legend without a rule for lanes is painted plainly, and scratch is unchanged
 pub record LanePainting (p : Painter) (L : ℕ) (xs : List Float) (out scratch : List ℕ) (answer : Answer) (out' scratch' : List ℕ) : Type 0 where
-  pub answered : answer ≡ laneRefusal (p .stored) L (length scratch) (length xs) (length out)
+  pub answered : answer ≡ laneAnswer p L xs out scratch
   pub output : out' ≡ ifDone answer (cond (p .simd) (lanePainted L (p .chunk) (p .plain) xs) (plainPainted (p .plain) xs)) out
   pub kept : scratch' ≡ ifDone answer (cond (p .simd) (scratchAfter L out' scratch) scratch) scratch

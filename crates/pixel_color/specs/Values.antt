@@ -10,6 +10,15 @@ use Rattle.legend.specs.Painters.{painter}
 use Rattle.pixel_color.specs.declared.PixelColor.{PixelColor}
 use Rattle.pixel_color.specs.declared.PixelColor.the-variants as pixel
 
+-- what the answer is, and its colour: 0 beside a refusal
+abbrev pub pixelAnswer : PixelColor → Answer
+pixelAnswer (pixel.Color color) = answer.Done
+pixelAnswer (pixel.Refused why) = answer.Refused why
+
+abbrev pub pixelWord : PixelColor → ℕ
+pixelWord (pixel.Color color) = color
+pixelWord (pixel.Refused why) = 0
+
 abbrev pub colorUnless : Answer → ℕ → PixelColor
 colorUnless answer.Done color = pixel.Color color
 colorUnless (answer.Refused why) color = pixel.Refused why

@@ -1,7 +1,7 @@
 -- The table of refusals (docs/RULES.md, "Where each call says no"): each case's number, and its index where the table names one. Definitions only.
 use Prim.Native.Nat.{ℕ}
 use Rattle.refusal.specs.declared.Refusal.{Refusal}
-use Rattle.refusal.specs.declared.Refusal.the-variants.{EmptyText, NotHexColor, NotHexByte, TooFewColors, TooManyColors, NoSuchPalette, StartAboveEnd, TooManyBands, ColorCountDiffers, EmptyRange, TooManyCategories, RangeTooWide, OutputLengthDiffers, NoSuchLaneCount, ScratchTooShort, CountAboveCapacity, KeyOutOfRange}
+use Rattle.refusal.specs.declared.Refusal.the-variants.{EmptyText, NotHexColor, NotHexByte, TooFewColors, TooManyColors, NoSuchPalette, StartAboveEnd, TooManyBands, ColorCountDiffers, EmptyRange, TooManyCategories, RangeTooWide, OutputLengthDiffers, NoSuchLaneCount, ScratchTooShort, CountAboveCapacity, KeyOutOfRange, BadFlag, BadKind}
 use Rattle.refusal.specs.declared.Index.{Index}
 use Rattle.refusal.specs.declared.Index.the-variants.{At, Absent}
 use Rattle.refusal.specs.declared.Answer.{Answer}
@@ -30,6 +30,9 @@ numberOf ScratchTooShort = 15
 -- records and keys
 numberOf CountAboveCapacity = 16
 numberOf (KeyOutOfRange key) = 17
+-- the interface for C
+numberOf BadFlag = 100
+numberOf BadKind = 101
 
 -- the first bad pair, range or key, counted from 0
 abbrev pub indexOf : Refusal → Index
@@ -50,6 +53,8 @@ indexOf NoSuchLaneCount = Absent
 indexOf ScratchTooShort = Absent
 indexOf CountAboveCapacity = Absent
 indexOf (KeyOutOfRange key) = At key
+indexOf BadFlag = Absent
+indexOf BadKind = Absent
 
 -- 0 and no index where nothing is refused
 abbrev pub answerNumber : Answer → ℕ

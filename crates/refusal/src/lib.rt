@@ -2,7 +2,7 @@
 ghost use mathlib.Core.Path.{_≡_};
 ghost use Rattle.refusal.specs.Table.{numberOf, indexOf, answerNumber, answerIndex};
 
-// One case for each number of the table, in its order. An index is held where the table names one.
+// One case for each number of the table, in its order, and one for each refusal of the interface for C. An index is held where the table names one.
 pub enum Refusal {
     EmptyText,
     NotHexColor,
@@ -21,6 +21,8 @@ pub enum Refusal {
     ScratchTooShort,
     CountAboveCapacity,
     KeyOutOfRange(usize),
+    BadFlag,
+    BadKind,
 }
 
 // The index that a refusal carries.
@@ -36,7 +38,7 @@ pub enum Answer {
 }
 
 impl Refusal {
-    // The number in the table of refusals, 1 to 17.
+    // The number in the table of refusals, 1 to 17; 100 and 101 of the interface for C.
     pub fn number(self) -> u32
         ensures { λ r. ⌜ r ≡ numberOf self ⌝ }
     {
@@ -58,6 +60,8 @@ impl Refusal {
             Refusal::ScratchTooShort => 15,
             Refusal::CountAboveCapacity => 16,
             Refusal::KeyOutOfRange(_) => 17,
+            Refusal::BadFlag => 100,
+            Refusal::BadKind => 101,
         }
     }
 
@@ -83,6 +87,8 @@ impl Refusal {
             Refusal::ScratchTooShort => Index::Absent,
             Refusal::CountAboveCapacity => Index::Absent,
             Refusal::KeyOutOfRange(i) => Index::At(i),
+            Refusal::BadFlag => Index::Absent,
+            Refusal::BadKind => Index::Absent,
         }
     }
 }

@@ -44,6 +44,15 @@ rangeIn kind.Linear l = fromTo (l .linear .start) (l .linear .end)
 rangeIn kind.Banded l = bandsRange (counted (l .banded))
 rangeIn kind.CategoricNumeric l = keysRange (keysIn kind.CategoricNumeric l)
 
+-- what the answer is, and its range: 0 and 0 beside a refusal
+abbrev pub rangeAnswer : TotalRange → Answer
+rangeAnswer (total.Range range) = answer.Done
+rangeAnswer (total.Refused why) = answer.Refused why
+
+abbrev pub rangeValues : TotalRange → ValueRange
+rangeValues (total.Range range) = range
+rangeValues (total.Refused why) = fromTo nought nought
+
 -- 16; 17 for a stored key
 unfoldable pub rangeRefusal : Legend → Answer
 rangeRefusal l = firstOf (storedRefusal l) (keysRefusal (keysIn (l .kind) l))

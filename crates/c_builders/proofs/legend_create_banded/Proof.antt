@@ -1,8 +1,8 @@
 -- `legend_create_banded` meets its contract. Assumes nothing.
 use mathlib.Core.Path.{ap, _∙_}
 use Rattle.legend_builders.specs.Building.{madeBanded}
-use Rattle.c_records.specs.Records.{madeUnless}
-use Rattle.c_settings.proofs.Unless.{unless}
+use Rattle.c_records.specs.Records.{madeToC}
+use Rattle.c_types.proofs.Known.{with-both}
 use borrow.Author.Needs.{needs}
 use Rattle.c_builders.proofs.legend_create_banded.Statement.{statement}
 use Rattle.c_builders.proofs.legend_create_banded.Tie as tie
@@ -13,14 +13,14 @@ settings-of-requires c κs = search needs
 create-banded-requires : tie.Need-create-banded-requires
 create-banded-requires c κs = search needs
 
-settings-form-requires : tie.Need-settings-form-requires
-settings-form-requires c κs = search needs
+settings-refusal-requires : tie.Need-settings-refusal-requires
+settings-refusal-requires c κs = search needs
 
-made-unless-requires : tie.Need-made-unless-requires
-made-unless-requires c κs = search needs
+made-to-c-requires : tie.Need-made-to-c-requires
+made-to-c-requires c κs = search needs
 
 returns : tie.Need-returns
-returns c = unless madeUnless (c .made-unless .ensures) (c .before .settings-form .ensures) (c .before .before .create-banded .ensures ∙ ap (madeBanded _) (c .before .before .before .settings-of .ensures))
+returns c = with-both madeToC (c .made-to-c .ensures) (c .before .settings-refusal .ensures) (c .before .before .create-banded .ensures ∙ ap (madeBanded _) (c .before .before .before .settings-of .ensures))
 
 pub legend-create-banded-spec : {M : Type 1} → statement M
 legend-create-banded-spec =
@@ -28,6 +28,6 @@ legend-create-banded-spec =
     (tie.spec
     settings-of-requires
     create-banded-requires
-    settings-form-requires
-    made-unless-requires
+    settings-refusal-requires
+    made-to-c-requires
     returns)

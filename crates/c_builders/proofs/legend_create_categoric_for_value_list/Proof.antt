@@ -1,8 +1,8 @@
 -- `legend_create_categoric_for_value_list` meets its contract. Assumes nothing.
 use mathlib.Core.Path.{ap, _∙_}
 use Rattle.legend_builders.specs.Building.{madeCategoric}
-use Rattle.c_records.specs.Records.{madeUnless}
-use Rattle.c_settings.proofs.Unless.{unless}
+use Rattle.c_records.specs.Records.{madeToC}
+use Rattle.c_types.proofs.Known.{with-both}
 use borrow.Author.Needs.{needs}
 use Rattle.c_builders.proofs.legend_create_categoric_for_value_list.Statement.{
   statement,
@@ -15,14 +15,14 @@ settings-of-requires c κs = search needs
 create-categoric-for-value-list-requires : tie.Need-create-categoric-for-value-list-requires
 create-categoric-for-value-list-requires c κs = search needs
 
-settings-form-requires : tie.Need-settings-form-requires
-settings-form-requires c κs = search needs
+settings-refusal-requires : tie.Need-settings-refusal-requires
+settings-refusal-requires c κs = search needs
 
-made-unless-requires : tie.Need-made-unless-requires
-made-unless-requires c κs = search needs
+made-to-c-requires : tie.Need-made-to-c-requires
+made-to-c-requires c κs = search needs
 
 returns : tie.Need-returns
-returns c = unless madeUnless (c .made-unless .ensures) (c .before .settings-form .ensures) (c .before .before .create-categoric-for-value-list .ensures ∙ ap (madeCategoric _) (c .before .before .before .settings-of .ensures))
+returns c = with-both madeToC (c .made-to-c .ensures) (c .before .settings-refusal .ensures) (c .before .before .create-categoric-for-value-list .ensures ∙ ap (madeCategoric _) (c .before .before .before .settings-of .ensures))
 
 pub legend-create-categoric-for-value-list-spec : {M : Type 1} → statement M
 legend-create-categoric-for-value-list-spec =
@@ -30,6 +30,6 @@ legend-create-categoric-for-value-list-spec =
     (tie.spec
     settings-of-requires
     create-categoric-for-value-list-requires
-    settings-form-requires
-    made-unless-requires
+    settings-refusal-requires
+    made-to-c-requires
     returns)

@@ -1,8 +1,8 @@
 -- `legend_create_categoric_for_value_range` meets its contract. Assumes nothing.
 use mathlib.Core.Path.{_∙_}
 use Rattle.legend_builders.specs.Building.{madeCategoric}
-use Rattle.c_records.specs.Records.{madeUnless}
-use Rattle.c_settings.proofs.Unless.{unless}
+use Rattle.c_records.specs.Records.{madeToC}
+use Rattle.c_types.proofs.Known.{with-both}
 use Rattle.catgegoric.specs.Made.{forValueRange}
 use Rattle.key_lists.proofs.Numbers.{back₂}
 use borrow.Author.Needs.{needs}
@@ -17,14 +17,14 @@ settings-of-requires c κs = search needs
 create-categoric-for-value-range-requires : tie.Need-create-categoric-for-value-range-requires
 create-categoric-for-value-range-requires c κs = search needs
 
-settings-form-requires : tie.Need-settings-form-requires
-settings-form-requires c κs = search needs
+settings-refusal-requires : tie.Need-settings-refusal-requires
+settings-refusal-requires c κs = search needs
 
-made-unless-requires : tie.Need-made-unless-requires
-made-unless-requires c κs = search needs
+made-to-c-requires : tie.Need-made-to-c-requires
+made-to-c-requires c κs = search needs
 
 returns : tie.Need-returns
-returns c = let s = c .before .before .before .before .before in unless madeUnless (c .made-unless .ensures) (c .before .settings-form .ensures) (c .before .before .create-categoric-for-value-range .ensures ∙ (λ j. madeCategoric (back₂ (λ a b. forValueRange a b (s .args .colors .now)) (s .args .start) (s .args .end) (s .fits .start .sfits) (s .fits .end .sfits) j) (c .before .before .before .settings-of .ensures j)))
+returns c = let s = c .before .before .before .before .before in with-both madeToC (c .made-to-c .ensures) (c .before .settings-refusal .ensures) (c .before .before .create-categoric-for-value-range .ensures ∙ (λ j. madeCategoric (back₂ (λ a b. forValueRange a b (s .args .colors .now)) (s .args .start) (s .args .end) (s .fits .start .sfits) (s .fits .end .sfits) j) (c .before .before .before .settings-of .ensures j)))
 
 pub legend-create-categoric-for-value-range-spec : {M : Type 1} → statement M
 legend-create-categoric-for-value-range-spec =
@@ -32,6 +32,6 @@ legend-create-categoric-for-value-range-spec =
     (tie.spec
     settings-of-requires
     create-categoric-for-value-range-requires
-    settings-form-requires
-    made-unless-requires
+    settings-refusal-requires
+    made-to-c-requires
     returns)

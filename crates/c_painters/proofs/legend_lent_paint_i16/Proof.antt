@@ -1,26 +1,34 @@
 -- `legend_lent_paint_i16` meets its contract. Assumes nothing.
-use mathlib.Core.Path.{sym, ap, _∙_}
-use Rattle.cast.specs.Nodata.{nodataI16}
-use Rattle.c_painters.proofs.Calling.{plain-refused, plain-painted}
+use mathlib.Core.Path.{ap, _∙_}
 use mir.Syntax.{w16}
 use mir.Facts.{toZ-ofZ}
 use Rattle.c_types.specs.Samples.{nodataIfI16}
+use Rattle.cast.specs.Nodata.{nodataI16}
 use Rattle.legend_head.specs.Lent.{lentLegend}
+use Rattle.c_settings.specs.Refusals.{useRefusal}
+use Rattle.c_painters.specs.Painting.{legendLent}
+use Rattle.c_painters.proofs.Calling.{plain-arguments, plain-painted}
 use borrow.Author.Needs.{needs}
 use Rattle.c_painters.proofs.legend_lent_paint_i16.Statement.{statement}
 use Rattle.c_painters.proofs.legend_lent_paint_i16.Tie as tie
 
-use-form-requires : tie.Need-use-form-requires
-use-form-requires c κs = search needs
-
-enum-known-number : tie.Need-enum-known-number
-enum-known-number c = search needs
-
-placed-requires : tie.Need-placed-requires
-placed-requires c κs = search needs
+use-refusal-requires : tie.Need-use-refusal-requires
+use-refusal-requires c κs = search needs
 
 enum-told : tie.Need-enum-told
 enum-told c = search needs
+
+to-c-requires : tie.Need-to-c-requires
+to-c-requires c κs = search needs
+
+returns : tie.Need-returns
+returns c =
+    let a = c .before .before .before .before .before .args in
+    plain-arguments (useRefusal (a .head .settings) (a .head .kind) (a .nodata-given)) (legendLent (a .head) (a .banded) (a .cmap .now) (a .keys .now) (a .colors .now) (a .lookup .now)) (nodataI16 (nodataIfI16 (a .nodata-given) (a .nodata)))
+    (c .before .before .before .use-refusal .ensures) (c .before .enum-told .given .1) (c .to-c .ensures)
+
+enum-told-2 : tie.Need-enum-told-2
+enum-told-2 c = search needs
 
 head-given-requires : tie.Need-head-given-requires
 head-given-requires c κs = search needs
@@ -31,30 +39,34 @@ nodata-if-i16-requires c κs = search needs
 apply-to-data-scalar-i16-requires : tie.Need-apply-to-data-scalar-i16-requires
 apply-to-data-scalar-i16-requires c κs = search needs
 
-told-requires : tie.Need-told-requires
-told-requires c κs = search needs
-
-returns : tie.Need-returns
-returns c = plain-refused (sym (c .before .before .before .before .use-form .ensures) ∙ c .before .before .number .given .1) (c .placed .ensures)
+to-c-requires-2 : tie.Need-to-c-requires-2
+to-c-requires-2 c κs = search needs
 
 same-length : tie.Need-same-length
 same-length c = search needs
 
 returns-2 : tie.Need-returns-2
-returns-2 c = let a = c .before .before .before .before .before .before .before .before .before .before .before .args in plain-painted (sym (c .before .before .before .before .before .before .before .before .before .use-form .ensures) ∙ c .before .before .before .before .before .before .before .enum-told .given .1) (ap (λ h. lentLegend h (a .cmap .now) (a .keys .now) (a .colors .now) (a .lookup .now)) (c .before .before .before .before .before .before .head-given .ensures)) (ap nodataI16 (c .before .before .before .before .before .nodata-if-i16 .ensures ∙ ap (nodataIfI16 (a .nodata-given)) (toZ-ofZ {w = w16} (c .before .before .before .before .before .before .before .before .before .before .before .fits .nodata)))) (c .told .ensures) (c .before .before .before .apply-to-data-scalar-i16 .ensures)
+returns-2 c =
+    let painted = c .before .before .before in
+    let made = painted .before .before in
+    let free = made .before .before in
+    let start = free .before .before .before .before in
+    let a = start .args in
+    plain-painted (useRefusal (a .head .settings) (a .head .kind) (a .nodata-given)) (legendLent (a .head) (a .banded) (a .cmap .now) (a .keys .now) (a .colors .now) (a .lookup .now)) (nodataI16 (nodataIfI16 (a .nodata-given) (a .nodata))) (free .before .before .use-refusal .ensures) (free .enum-told2 .given .1)
+    (ap (λ h. lentLegend h (a .cmap .now) (a .keys .now) (a .colors .now) (a .lookup .now)) (made .before .head-given .ensures)) (ap nodataI16 (made .nodata-if-i16 .ensures ∙ ap (nodataIfI16 (a .nodata-given)) (toZ-ofZ {w = w16} (start .fits .nodata)))) (painted .apply-to-data-scalar-i16 .result) (c .to-c2 .ensures) (painted .apply-to-data-scalar-i16 .ensures)
 
 pub legend-lent-paint-i16-spec : {M : Type 1} → statement M
 legend-lent-paint-i16-spec =
     tie.close
     (tie.spec
-    use-form-requires
-    enum-known-number
-    placed-requires
+    use-refusal-requires
     enum-told
+    to-c-requires
+    returns
+    enum-told-2
     head-given-requires
     nodata-if-i16-requires
     apply-to-data-scalar-i16-requires
-    told-requires
-    returns
+    to-c-requires-2
     same-length
     returns-2)

@@ -1,22 +1,31 @@
 -- `legend_lent_paint_lanes_f32` meets its contract. Assumes nothing.
-use mathlib.Core.Path.{sym, ap, _∙_}
-use Rattle.c_painters.proofs.Calling.{lanes-refused, lanes-painted}
+use mathlib.Core.Path.{ap}
 use Rattle.legend_head.specs.Lent.{lentLegend}
+use Rattle.c_types.specs.Samples.{nodataIf}
+use Rattle.c_settings.specs.Refusals.{useRefusal}
+use Rattle.c_painters.specs.Painting.{legendLent}
+use Rattle.c_painters.proofs.Calling.{lane-arguments, lanes-painted}
 use borrow.Author.Needs.{needs}
 use Rattle.c_painters.proofs.legend_lent_paint_lanes_f32.Statement.{statement}
 use Rattle.c_painters.proofs.legend_lent_paint_lanes_f32.Tie as tie
 
-use-form-requires : tie.Need-use-form-requires
-use-form-requires c κs = search needs
-
-enum-known-number : tie.Need-enum-known-number
-enum-known-number c = search needs
-
-placed-requires : tie.Need-placed-requires
-placed-requires c κs = search needs
+use-refusal-requires : tie.Need-use-refusal-requires
+use-refusal-requires c κs = search needs
 
 enum-told : tie.Need-enum-told
 enum-told c = search needs
+
+to-c-requires : tie.Need-to-c-requires
+to-c-requires c κs = search needs
+
+returns : tie.Need-returns
+returns c =
+    let a = c .before .before .before .before .before .before .before .args in
+    lane-arguments (useRefusal (a .head .settings) (a .head .kind) (a .nodata-given)) (legendLent (a .head) (a .banded) (a .cmap .now) (a .keys .now) (a .colors .now) (a .lookup .now)) (nodataIf (a .nodata-given) (a .nodata))
+    (c .before .before .before .use-refusal .ensures) (c .before .enum-told .given .1) (c .to-c .ensures)
+
+enum-told-2 : tie.Need-enum-told-2
+enum-told-2 c = search needs
 
 head-given-requires : tie.Need-head-given-requires
 head-given-requires c κs = search needs
@@ -27,11 +36,8 @@ nodata-if-requires c κs = search needs
 apply-to-data-kernel-requires : tie.Need-apply-to-data-kernel-requires
 apply-to-data-kernel-requires c κs = search needs
 
-told-requires : tie.Need-told-requires
-told-requires c κs = search needs
-
-returns : tie.Need-returns
-returns c = lanes-refused (sym (c .before .before .before .before .use-form .ensures) ∙ c .before .before .number .given .1) (c .placed .ensures)
+to-c-requires-2 : tie.Need-to-c-requires-2
+to-c-requires-2 c κs = search needs
 
 same-length : tie.Need-same-length
 same-length c = search needs
@@ -40,21 +46,28 @@ same-length-2 : tie.Need-same-length-2
 same-length-2 c = search needs
 
 returns-2 : tie.Need-returns-2
-returns-2 c = let a = c .before .before .before .before .before .before .before .before .before .before .before .before .before .before .before .before .args in lanes-painted (sym (c .before .before .before .before .before .before .before .before .before .before .before .before .use-form .ensures) ∙ c .before .before .before .before .before .before .before .before .before .before .enum-told .given .1) (ap (λ h. lentLegend h (a .cmap .now) (a .keys .now) (a .colors .now) (a .lookup .now)) (c .before .before .before .before .before .before .before .before .before .head-given .ensures)) (c .before .before .before .before .before .before .before .before .nodata-if .ensures) (c .told .ensures) (c .before .before .before .before .before .apply-to-data-kernel .ensures)
+returns-2 c =
+    let painted = c .before .before .before .before .before in
+    let made = painted .before .before .before in
+    let free = made .before .before in
+    let start = free .before .before .before .before .before .before in
+    let a = start .args in
+    lanes-painted (useRefusal (a .head .settings) (a .head .kind) (a .nodata-given)) (legendLent (a .head) (a .banded) (a .cmap .now) (a .keys .now) (a .colors .now) (a .lookup .now)) (nodataIf (a .nodata-given) (a .nodata)) (free .before .before .use-refusal .ensures) (free .enum-told2 .given .1)
+    (ap (λ h. lentLegend h (a .cmap .now) (a .keys .now) (a .colors .now) (a .lookup .now)) (made .before .head-given .ensures)) (made .nodata-if .ensures) (painted .apply-to-data-kernel .result) (c .to-c2 .ensures) (painted .apply-to-data-kernel .ensures)
 
 pub legend-lent-paint-lanes-f32-spec : {M : Type 1} → statement M
 legend-lent-paint-lanes-f32-spec =
     tie.close
     (tie.spec
-    use-form-requires
-    enum-known-number
-    placed-requires
+    use-refusal-requires
     enum-told
+    to-c-requires
+    returns
+    enum-told-2
     head-given-requires
     nodata-if-requires
     apply-to-data-kernel-requires
-    told-requires
-    returns
+    to-c-requires-2
     same-length
     same-length-2
     returns-2)

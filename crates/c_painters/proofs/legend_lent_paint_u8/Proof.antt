@@ -1,23 +1,32 @@
 -- `legend_lent_paint_u8` meets its contract. Assumes nothing.
-use mathlib.Core.Path.{sym, ap, _∙_}
+use mathlib.Core.Path.{ap}
 use Rattle.cast.specs.Nodata.{nodataU8}
-use Rattle.c_painters.proofs.Calling.{plain-refused, plain-painted}
 use Rattle.legend_head.specs.Lent.{lentLegend}
+use Rattle.c_types.specs.Samples.{nodataIfU8}
+use Rattle.c_settings.specs.Refusals.{useRefusal}
+use Rattle.c_painters.specs.Painting.{legendLent}
+use Rattle.c_painters.proofs.Calling.{plain-arguments, plain-painted}
 use borrow.Author.Needs.{needs}
 use Rattle.c_painters.proofs.legend_lent_paint_u8.Statement.{statement}
 use Rattle.c_painters.proofs.legend_lent_paint_u8.Tie as tie
 
-use-form-requires : tie.Need-use-form-requires
-use-form-requires c κs = search needs
-
-enum-known-number : tie.Need-enum-known-number
-enum-known-number c = search needs
-
-placed-requires : tie.Need-placed-requires
-placed-requires c κs = search needs
+use-refusal-requires : tie.Need-use-refusal-requires
+use-refusal-requires c κs = search needs
 
 enum-told : tie.Need-enum-told
 enum-told c = search needs
+
+to-c-requires : tie.Need-to-c-requires
+to-c-requires c κs = search needs
+
+returns : tie.Need-returns
+returns c =
+    let a = c .before .before .before .before .before .before .args in
+    plain-arguments (useRefusal (a .head .settings) (a .head .kind) (a .nodata-given)) (legendLent (a .head) (a .banded) (a .cmap .now) (a .keys .now) (a .colors .now) (a .lookup .now)) (nodataU8 (nodataIfU8 (a .nodata-given) (a .nodata)))
+    (c .before .before .before .use-refusal .ensures) (c .before .enum-told .given .1) (c .to-c .ensures)
+
+enum-told-2 : tie.Need-enum-told-2
+enum-told-2 c = search needs
 
 head-given-requires : tie.Need-head-given-requires
 head-given-requires c κs = search needs
@@ -28,30 +37,34 @@ nodata-if-u8-requires c κs = search needs
 apply-to-data-scalar-u8-requires : tie.Need-apply-to-data-scalar-u8-requires
 apply-to-data-scalar-u8-requires c κs = search needs
 
-told-requires : tie.Need-told-requires
-told-requires c κs = search needs
-
-returns : tie.Need-returns
-returns c = plain-refused (sym (c .before .before .before .before .use-form .ensures) ∙ c .before .before .number .given .1) (c .placed .ensures)
+to-c-requires-2 : tie.Need-to-c-requires-2
+to-c-requires-2 c κs = search needs
 
 same-length : tie.Need-same-length
 same-length c = search needs
 
 returns-2 : tie.Need-returns-2
-returns-2 c = let a = c .before .before .before .before .before .before .before .before .before .before .before .before .args in plain-painted (sym (c .before .before .before .before .before .before .before .before .before .use-form .ensures) ∙ c .before .before .before .before .before .before .before .enum-told .given .1) (ap (λ h. lentLegend h (a .cmap .now) (a .keys .now) (a .colors .now) (a .lookup .now)) (c .before .before .before .before .before .before .head-given .ensures)) (ap nodataU8 (c .before .before .before .before .before .nodata-if-u8 .ensures)) (c .told .ensures) (c .before .before .before .apply-to-data-scalar-u8 .ensures)
+returns-2 c =
+    let painted = c .before .before .before in
+    let made = painted .before .before in
+    let free = made .before .before in
+    let start = free .before .before .before .before .before in
+    let a = start .args in
+    plain-painted (useRefusal (a .head .settings) (a .head .kind) (a .nodata-given)) (legendLent (a .head) (a .banded) (a .cmap .now) (a .keys .now) (a .colors .now) (a .lookup .now)) (nodataU8 (nodataIfU8 (a .nodata-given) (a .nodata))) (free .before .before .use-refusal .ensures) (free .enum-told2 .given .1)
+    (ap (λ h. lentLegend h (a .cmap .now) (a .keys .now) (a .colors .now) (a .lookup .now)) (made .before .head-given .ensures)) (ap nodataU8 (made .nodata-if-u8 .ensures)) (painted .apply-to-data-scalar-u8 .result) (c .to-c2 .ensures) (painted .apply-to-data-scalar-u8 .ensures)
 
 pub legend-lent-paint-u8-spec : {M : Type 1} → statement M
 legend-lent-paint-u8-spec =
     tie.close
     (tie.spec
-    use-form-requires
-    enum-known-number
-    placed-requires
+    use-refusal-requires
     enum-told
+    to-c-requires
+    returns
+    enum-told-2
     head-given-requires
     nodata-if-u8-requires
     apply-to-data-scalar-u8-requires
-    told-requires
-    returns
+    to-c-requires-2
     same-length
     returns-2)

@@ -9,12 +9,12 @@ use Rattle.legend_builders.proofs.made_banded.Tie as tie
 enum-told : tie.Need-enum-told
 enum-told c = search needs
 
-default-requires : tie.Need-default-requires
-default-requires c κs = search needs
+empty-requires : tie.Need-empty-requires
+empty-requires c κs = search needs
 
 returns : tie.Need-returns
 unfolding madeBanded
-returns c = let a = c .before .before .before .args in none (bandedLegend (a .made .banded) (a .config)) (c .default .ensures) (c .before .enum-told .given .1)
+returns c = let a = c .before .before .before .args in none (bandedLegend (a .made .banded) (a .config)) (c .empty .ensures) (c .before .enum-told .given .1)
 
 enum-told-2 : tie.Need-enum-told-2
 enum-told-2 c = search needs
@@ -29,4 +29,4 @@ returns-2 c = let a = c .before .before .before .before .args in one (bandedLege
 pub made-banded-spec : {M : Type 1} → statement M
 made-banded-spec =
     tie.close
-    (tie.spec enum-told default-requires returns enum-told-2 with-banded-requires returns-2)
+    (tie.spec enum-told empty-requires returns enum-told-2 with-banded-requires returns-2)

@@ -1,5 +1,5 @@
 -- `colors::legend_hex` meets its contract. Assumes nothing.
-use Rattle.c_answers.specs.Colors.{colorAnswer}
+use Rattle.c_answers.specs.Colors.{hexToC}
 use mathlib.Core.Path.{ap, _∙_}
 use borrow.Author.Needs.{needs}
 use Rattle.c_queries.proofs.colors.legend_hex.Statement.{statement}
@@ -8,11 +8,11 @@ use Rattle.c_queries.proofs.colors.legend_hex.Tie as tie
 from-hex-string-requires : tie.Need-from-hex-string-requires
 from-hex-string-requires c κs = search needs
 
-hex-told-requires : tie.Need-hex-told-requires
-hex-told-requires c κs = search needs
+hex-to-c-requires : tie.Need-hex-to-c-requires
+hex-to-c-requires c κs = search needs
 
 returns : tie.Need-returns
-returns c = c .hex-told .ensures ∙ ap colorAnswer (c .before .from-hex-string .ensures)
+returns c = c .hex-to-c .ensures ∙ ap hexToC (c .before .from-hex-string .ensures)
 
 pub legend-hex-spec : {M : Type 1} → statement M
-legend-hex-spec = tie.close (tie.spec from-hex-string-requires hex-told-requires returns)
+legend-hex-spec = tie.close (tie.spec from-hex-string-requires hex-to-c-requires returns)

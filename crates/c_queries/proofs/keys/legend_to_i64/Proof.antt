@@ -8,11 +8,11 @@ use Rattle.c_queries.proofs.keys.legend_to_i64.Tie as tie
 to-i64-requires : tie.Need-to-i64-requires
 to-i64-requires c κs = search needs
 
-key-told-requires : tie.Need-key-told-requires
-key-told-requires c κs = search needs
+key-to-c-requires : tie.Need-key-to-c-requires
+key-to-c-requires c κs = search needs
 
 returns : tie.Need-returns
-returns c = c .key-told .ensures ∙ ap keyOf (c .before .to-i64 .ensures)
+returns c = c .key-to-c .ensures ∙ ap keyOf (c .before .to-i64 .ensures)
 
 pub legend-to-i64-spec : {M : Type 1} → statement M
-legend-to-i64-spec = tie.close (tie.spec to-i64-requires key-told-requires returns)
+legend-to-i64-spec = tie.close (tie.spec to-i64-requires key-to-c-requires returns)

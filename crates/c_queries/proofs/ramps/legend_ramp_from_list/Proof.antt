@@ -1,5 +1,5 @@
 -- `ramps::legend_ramp_from_list` meets its contract. Assumes nothing.
-use Rattle.c_answers.specs.Ramps.{rampAnswer}
+use Rattle.c_answers.specs.Ramps.{rampToC}
 use mathlib.Core.Path.{ap, _∙_}
 use borrow.Author.Needs.{needs}
 use Rattle.c_queries.proofs.ramps.legend_ramp_from_list.Statement.{statement}
@@ -8,11 +8,11 @@ use Rattle.c_queries.proofs.ramps.legend_ramp_from_list.Tie as tie
 create-requires : tie.Need-create-requires
 create-requires c κs = search needs
 
-ramp-told-requires : tie.Need-ramp-told-requires
-ramp-told-requires c κs = search needs
+ramp-to-c-requires : tie.Need-ramp-to-c-requires
+ramp-to-c-requires c κs = search needs
 
 returns : tie.Need-returns
-returns c = c .ramp-told .ensures ∙ ap rampAnswer (c .before .create .ensures)
+returns c = c .ramp-to-c .ensures ∙ ap rampToC (c .before .create .ensures)
 
 pub legend-ramp-from-list-spec : {M : Type 1} → statement M
-legend-ramp-from-list-spec = tie.close (tie.spec create-requires ramp-told-requires returns)
+legend-ramp-from-list-spec = tie.close (tie.spec create-requires ramp-to-c-requires returns)

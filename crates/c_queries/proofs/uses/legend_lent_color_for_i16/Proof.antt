@@ -1,7 +1,7 @@
 -- `uses::legend_lent_color_for_i16` meets its contract. Assumes nothing.
 use Rattle.pixel_color.specs.Values.{colorForValue}
-use Rattle.c_answers.specs.Uses.{pixelUnless}
-use Rattle.c_settings.proofs.Unless.{unless}
+use Rattle.c_answers.specs.Uses.{pixelToC}
+use Rattle.c_types.proofs.Known.{with-both}
 use mathlib.Core.Path.{ap, _∙_}
 use mir.Syntax.{w16}
 use mir.Facts.{toZ-ofZ}
@@ -22,14 +22,14 @@ nodata-if-i16-requires c κs = search needs
 color-for-value-i16-requires : tie.Need-color-for-value-i16-requires
 color-for-value-i16-requires c κs = search needs
 
-use-form-requires : tie.Need-use-form-requires
-use-form-requires c κs = search needs
+use-refusal-requires : tie.Need-use-refusal-requires
+use-refusal-requires c κs = search needs
 
-pixel-unless-requires : tie.Need-pixel-unless-requires
-pixel-unless-requires c κs = search needs
+pixel-to-c-requires : tie.Need-pixel-to-c-requires
+pixel-to-c-requires c κs = search needs
 
 returns : tie.Need-returns
-returns c = let a = c .before .before .before .before .before .args in let s = c .before .before .before .before .before in unless pixelUnless (c .pixel-unless .ensures) (c .before .use-form .ensures) (c .before .before .color-for-value-i16 .ensures ∙ (λ j. colorForValue (lentLegend (c .before .before .before .before .head-given .ensures j) (a .cmap .now) (a .keys .now) (a .colors .now) (a .lookup .now)) (nodataI16 ((c .before .before .before .nodata-if-i16 .ensures ∙ ap (nodataIfI16 (s .args .nodata-given)) (toZ-ofZ {w = w16} (s .fits .nodata))) j)) (ofI16 (toZ-ofZ {w = w16} (s .fits .value) j))))
+returns c = let a = c .before .before .before .before .before .args in let s = c .before .before .before .before .before in with-both pixelToC (c .pixel-to-c .ensures) (c .before .use-refusal .ensures) (c .before .before .color-for-value-i16 .ensures ∙ (λ j. colorForValue (lentLegend (c .before .before .before .before .head-given .ensures j) (a .cmap .now) (a .keys .now) (a .colors .now) (a .lookup .now)) (nodataI16 ((c .before .before .before .nodata-if-i16 .ensures ∙ ap (nodataIfI16 (s .args .nodata-given)) (toZ-ofZ {w = w16} (s .fits .nodata))) j)) (ofI16 (toZ-ofZ {w = w16} (s .fits .value) j))))
 
 pub legend-lent-color-for-i16-spec : {M : Type 1} → statement M
 legend-lent-color-for-i16-spec =
@@ -38,6 +38,6 @@ legend-lent-color-for-i16-spec =
     head-given-requires
     nodata-if-i16-requires
     color-for-value-i16-requires
-    use-form-requires
-    pixel-unless-requires
+    use-refusal-requires
+    pixel-to-c-requires
     returns)

@@ -2,8 +2,8 @@
 use mathlib.Core.Path.{_∙_}
 use Rattle.cast.specs.Samples.{ofU8}
 use Rattle.pixel_color.specs.Values.{colorForValue}
-use Rattle.c_answers.specs.Uses.{pixelUnless}
-use Rattle.c_settings.proofs.Unless.{unless}
+use Rattle.c_answers.specs.Uses.{pixelToC}
+use Rattle.c_types.proofs.Known.{with-both}
 use Rattle.cast.specs.Nodata.{nodataU8}
 use Rattle.legend_head.specs.Lent.{lentLegend}
 use borrow.Author.Needs.{needs}
@@ -19,14 +19,14 @@ nodata-if-u8-requires c κs = search needs
 color-for-value-u8-requires : tie.Need-color-for-value-u8-requires
 color-for-value-u8-requires c κs = search needs
 
-use-form-requires : tie.Need-use-form-requires
-use-form-requires c κs = search needs
+use-refusal-requires : tie.Need-use-refusal-requires
+use-refusal-requires c κs = search needs
 
-pixel-unless-requires : tie.Need-pixel-unless-requires
-pixel-unless-requires c κs = search needs
+pixel-to-c-requires : tie.Need-pixel-to-c-requires
+pixel-to-c-requires c κs = search needs
 
 returns : tie.Need-returns
-returns c = let a = c .before .before .before .before .before .args in unless pixelUnless (c .pixel-unless .ensures) (c .before .use-form .ensures) (c .before .before .color-for-value-u8 .ensures ∙ (λ j. colorForValue (lentLegend (c .before .before .before .before .head-given .ensures j) (a .cmap .now) (a .keys .now) (a .colors .now) (a .lookup .now)) (nodataU8 (c .before .before .before .nodata-if-u8 .ensures j)) (ofU8 (c .before .before .before .before .before .args .value))))
+returns c = let a = c .before .before .before .before .before .args in with-both pixelToC (c .pixel-to-c .ensures) (c .before .use-refusal .ensures) (c .before .before .color-for-value-u8 .ensures ∙ (λ j. colorForValue (lentLegend (c .before .before .before .before .head-given .ensures j) (a .cmap .now) (a .keys .now) (a .colors .now) (a .lookup .now)) (nodataU8 (c .before .before .before .nodata-if-u8 .ensures j)) (ofU8 (c .before .before .before .before .before .args .value))))
 
 pub legend-lent-color-for-u8-spec : {M : Type 1} → statement M
 legend-lent-color-for-u8-spec =
@@ -35,6 +35,6 @@ legend-lent-color-for-u8-spec =
     head-given-requires
     nodata-if-u8-requires
     color-for-value-u8-requires
-    use-form-requires
-    pixel-unless-requires
+    use-refusal-requires
+    pixel-to-c-requires
     returns)

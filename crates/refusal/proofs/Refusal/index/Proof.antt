@@ -56,6 +56,12 @@ enum-told-14 c = search needs
 enum-known-self-3 : tie.Need-enum-known-self-3
 enum-known-self-3 c = search needs
 
+enum-told-15 : tie.Need-enum-told-15
+enum-told-15 c = search needs
+
+enum-told-16 : tie.Need-enum-told-16
+enum-told-16 c = search needs
+
 returns : tie.Need-returns
 returns c = sym (ap indexOf (c .enum-told .given .1))
 
@@ -107,6 +113,12 @@ returns-16 c = sym (ap indexOf (c .enum-told14 .given .1))
 returns-17 : tie.Need-returns-17
 returns-17 c = sym (ap indexOf (c .before .self3 .given .1))
 
+returns-18 : tie.Need-returns-18
+returns-18 c = sym (ap indexOf (c .enum-told15 .given .1))
+
+returns-19 : tie.Need-returns-19
+returns-19 c = sym (ap indexOf (c .enum-told16 .given .1))
+
 pub index-spec : {M : Type 1} → statement M
 index-spec =
     tie.close
@@ -128,6 +140,8 @@ index-spec =
     enum-told-13
     enum-told-14
     enum-known-self-3
+    enum-told-15
+    enum-told-16
     returns
     returns-2
     returns-3
@@ -144,4 +158,6 @@ index-spec =
     returns-14
     returns-15
     returns-16
-    returns-17)
+    returns-17
+    returns-18
+    returns-19)
