@@ -3,13 +3,13 @@ use mathlib.Core.Path.{_≡_, refl, subst}
 use mathlib.Core.Logic.{_↔_, inl, inr}
 use Prim.Native.Nat.{ℕ, _+_, _*_, _<_}
 use native.Mathlib.Omega.{arith}
-use mathlib.Core.Bool.{Bool, true, false, _||_, Bool·beq}
-use lib.Dec.{T, eqb, ltb→lt, lt→ltb, eqb→eq}
-use lib.Ieee.{Float, nan, inf, fin, up, down, lt, le, eq, level, below}
+use mathlib.Core.Bool.{Bool, true, false, not, _||_, Bool·beq}
+use lib.Dec.{T, T-not, eqb, ltb→lt, lt→ltb, eqb→eq}
+use lib.Ieee.{Float, nan, inf, fin, up, down, lt, le, eq, ne, isNan, level, below}
 use lib.Ieee.Fits.{and-i, and-l, and-r, eq→eqb}
 use Rattle.floats.specs.Signed.{positive, negative}
-use Rattle.floats.specs.Comparison.{Less, Same, AtMost}
-use Rattle.floats.proofs.Order.{or-split, or-l, or-r}
+use Rattle.floats.specs.Comparison.{Less, Same, AtMost, Differs}
+use Rattle.floats.proofs.Order.{or-split, or-l, or-r, total, eq-l, eq-r, eq-sym, eq→le, lt-not-le}
 
 -- ---- less
 below→ : (s : Bool) (a : ℕ) (t : Bool) (b : ℕ) → T (below s a t b) → positive s a + negative t b < positive t b + negative s a
@@ -87,3 +87,40 @@ le-meets x y = (there, back)
     back : AtMost x y → T (lt x y || eq x y)
     back (inl l) = or-l (lt x y) (eq x y) (lt-meets x y .1 l)
     back (inr e) = or-r (lt x y) (eq x y) (eq-meets x y .1 e)
+
+-- ---- not equal
+strict : (x y : Float) → T (le x y) → (T (eq x y) → ⊥) → T (lt x y)
+unfolding le
+strict x y l n = elim (or-split (lt x y) (eq x y) l) [ inl i ↦ i | inr e ↦ absurd (n e) ]
+
+refuted : (b : Bool) → (T b → ⊥) → T (not b)
+refuted true n = n tt
+refuted false n = tt
+
+-- of two values that are no NaN and not equal one is less
+ordered : (x y : Float) → T (not (isNan x)) → T (not (isNan y)) → T (not (eq x y)) → Differs x y
+ordered x y n m h = elim (total x y n m) [
+  | inl l ↦ inl (lt-meets x y .0 (strict x y l (T-not (eq x y) h)))
+  | inr l ↦ inr (inl (lt-meets y x .0 (strict y x l (λ (e : T (eq y x)). T-not (eq x y) h (eq-sym y x e)))))
+]
+
+there : (x y : Float) → T (not (eq x y)) → Differs x y
+unfolding isNan
+there nan y h = inr (inr (inl refl))
+there (inf s) nan h = inr (inr (inr refl))
+there (inf s) (inf t) h = ordered (inf s) (inf t) tt tt h
+there (inf s) (fin t n d) h = ordered (inf s) (fin t n d) tt tt h
+there (fin s m e) nan h = inr (inr (inr refl))
+there (fin s m e) (inf t) h = ordered (fin s m e) (inf t) tt tt h
+there (fin s m e) (fin t n d) h = ordered (fin s m e) (fin t n d) tt tt h
+
+back : (x y : Float) → Differs x y → T (eq x y) → ⊥
+unfolding isNan
+back x y (inl l) e = lt-not-le x y (lt-meets x y .1 l) (eq→le y x (eq-sym x y e))
+back x y (inr (inl l)) e = lt-not-le y x (lt-meets y x .1 l) (eq→le x y e)
+back x y (inr (inr (inl n))) e = subst (λ (z : Float). T (not (isNan z))) n (eq-l x y e)
+back x y (inr (inr (inr n))) e = subst (λ (z : Float). T (not (isNan z))) n (eq-r x y e)
+
+pub ne-meets : (x y : Float) → T (ne x y) ↔ Differs x y
+unfolding ne
+ne-meets x y = (there x y, λ (d : Differs x y). refuted (eq x y) (back x y d))
