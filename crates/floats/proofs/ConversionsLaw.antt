@@ -6,10 +6,10 @@ use native.Mathlib.Omega.{arith}
 use mathlib.Core.Bool.{Bool, true, false, not}
 use lib.IntN.{ℤ, pos, negsuc, natAbs}
 use lib.Signed.{nonNeg}
-use lib.Dec.{T, lit≤}
+use lib.Dec.{T, le→leb, lt→ltb, lit≤}
 use lib.Pow.{pow-add}
 use lib.Ieee as ieee
-use lib.Ieee.{Float, nan, inf, fin, Format, prec, up, down, round, fits, ofInt}
+use lib.Ieee.{Float, nan, inf, fin, Format, prec, up, down, round, fits, ofInt, inFloat}
 use lib.Ieee.Exact.{HasValue}
 use lib.Ieee.Fits.{down-pos, fits-widens, ofInt-fits}
 use lib.Ieee.Back.{round-whole}
@@ -69,3 +69,9 @@ pub ofInt-exact : (f : Format) (z : ℤ) → natAbs z ≤ 2 ^ prec f → HasValu
 unfolding ofInt
 ofInt-exact f (pos n) h = round-whole f false n h
 ofInt-exact f (negsuc n) h = round-whole f true (suc n) h
+
+-- and there the language has the cast
+pub ofInt-defined : (f : Format) (z : ℤ) → natAbs z ≤ 2 ^ prec f → T (inFloat f z)
+unfolding inFloat
+ofInt-defined f (pos n) h = le→leb n (2 ^ prec f) h
+ofInt-defined f (negsuc n) h = lt→ltb n (2 ^ prec f) h
