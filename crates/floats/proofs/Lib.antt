@@ -13,6 +13,7 @@ pub mod RoundingLaw
 pub mod OperationsLaw
 pub mod Unique
 pub mod ConversionsLaw
+pub mod EncodingsLaw
 pub mod ComparisonLaw
 pub mod RampIndexLaw
 pub mod RampBounds
