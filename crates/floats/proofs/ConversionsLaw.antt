@@ -14,9 +14,9 @@ use lib.Ieee.Exact.{HasValue}
 use lib.Ieee.Fits.{down-pos, fits-widens, ofInt-fits}
 use lib.Ieee.Back.{round-whole}
 use Rattle.floats.specs.Formats.{binary32, binary64, parameters}
-use Rattle.floats.specs.Rounding.{Datum, Rounds}
+use Rattle.floats.specs.Rounding.{Datum}
 use Rattle.floats.specs.Conversions.{Converts, FromInt}
-use Rattle.floats.proofs.RoundingLaw.{round-meets}
+use Rattle.floats.proofs.RoundingLaw.{round-meets, rounds-by}
 use Rattle.floats.proofs.Representable.{round-own}
 use Rattle.floats.proofs.Unique.{rounds-unique}
 
@@ -24,7 +24,7 @@ use Rattle.floats.proofs.Unique.{rounds-unique}
 pub holds-converts : (f : Format) (x : Float) → T (fits f x) → Converts (parameters f) x x
 holds-converts f nan t = refl
 holds-converts f (inf s) t = refl
-holds-converts f (fin s m e) t = subst (λ (r : Float). Rounds (parameters f) s (m * up e) (down e) r) (round-own f s m e t) (round-meets f s (m * up e) (down e) (down-pos e))
+holds-converts f (fin s m e) t = rounds-by f (down-pos e) (sym (round-own f s m e t))
 
 pub converts-unique : (f : Format) (x r r' : Float) → T (fits f r) → T (fits f r') → Converts (parameters f) x r → Converts (parameters f) x r' → r ≡ r'
 converts-unique f nan r r' i j h k = h ∙ sym k
@@ -39,7 +39,7 @@ datum-widens n d =
       power = d .power + 925;
       short = lt-of-lt-of-le (d .short) (lit≤ tt);
       low = fewer (d .power) (d .low);
-      is = ap (λ (z : ℕ). z * 2 ^ 925) (d .is) ∙ mul-assoc (d .digits) (2 ^ d .power) (2 ^ 925) ∙ ap (λ (z : ℕ). d .digits * z) (sym (pow-add 2 (d .power) 925));
+      is = rw (d .is, pow-add 2 (d .power) 925) (mul-assoc (d .digits) (2 ^ d .power) (2 ^ 925));
     }
   where
     fewer : (k : ℕ) → k ≤ 253 → k + 925 ≤ 2045

@@ -103,7 +103,7 @@ module _ (f : Format) where
       let E = n % top f / hid f in
       let D = n % hid f in
       let l : E ≤ ones f = le-of-suc-le-suc (div-lt-iff-lt-mul hp .1 (lt-of-lt-of-le (mod-lt n (mul-pos hp (zero-lt-suc (ones f)))) (le-of-eq (mul-comm (hid f) (suc (ones f)))))) in
-      record { S = S; E = E; T = D; exponent = l; trailing = mod-lt n hp; is = number (hid f) (suc (ones f)) hp (zero-lt-suc (ones f)) n h; value = fields-stand f S E D l }
+      record { sign = S; exponent = E; trailing = D; low = l; short = mod-lt n hp; is = number (hid f) (suc (ones f)) hp (zero-lt-suc (ones f)) n h; value = fields-stand f S E D l }
 
   stands-unique : (S : Bool) (E D : ℕ) (x y : Float) → T (fits f x) → T (fits f y) → StandsFor (parameters f) S E D x → StandsFor (parameters f) S E D y → x ≡ y
   stands-unique S E D nan nan i j h k = refl
@@ -117,15 +117,15 @@ module _ (f : Format) where
   stands-unique S E D (fin s m e) (fin t n d) i j h k = value→same f S (significand (parameters f) E D * 2 ^ (E - 1)) (2 ^ low f) (fin s m e) (fin t n d) (pow-pos (low f)) i j (h .1) (k .1)
 
   encodes-width : (n : ℕ) (x : Float) → Encodes (parameters f) n x → n < 2 * top f
-  encodes-width n x h = lt-of-le-of-lt (le-of-eq (h .is)) (in-width (hid f) (suc (ones f)) hp (zero-lt-suc (ones f)) (h .S) (h .E) (h .T) (suc-le-suc-iff .1 (h .exponent)) (h .trailing))
+  encodes-width n x h = lt-of-le-of-lt (le-of-eq (h .is)) (in-width (hid f) (suc (ones f)) hp (zero-lt-suc (ones f)) (h .sign) (h .exponent) (h .trailing) (suc-le-suc-iff .1 (h .low)) (h .short))
 
   -- a bit string is one value's
   pub ofBits-only : (n : ℕ) (x : Float) → T (fits f x) → Encodes (parameters f) n x → x ≡ ofBits f n
   ofBits-only n x i h =
       let k = ofBits-meets n (encodes-width n x h) in
-      let q = same-fields (hid f) (suc (ones f)) hp (zero-lt-suc (ones f)) (h .S) (k .S) (h .E) (k .E) (h .T) (k .T) (suc-le-suc-iff .1 (h .exponent)) (suc-le-suc-iff .1 (k .exponent)) (h .trailing) (k .trailing) (sym (h .is) ∙ k .is) in
-      stands-unique (k .S) (k .E) (k .T) x (ofBits f n) i (ofBits-fits f n)
-      (subst (λ (z : ℕ). StandsFor (parameters f) (k .S) (k .E) z x) (q .2) (subst₂ (λ (s : Bool) (e : ℕ). StandsFor (parameters f) s e (h .T) x) (q .0) (q .1) (h .value))) (k .value)
+      let q = same-fields (hid f) (suc (ones f)) hp (zero-lt-suc (ones f)) (h .sign) (k .sign) (h .exponent) (k .exponent) (h .trailing) (k .trailing) (suc-le-suc-iff .1 (h .low)) (suc-le-suc-iff .1 (k .low)) (h .short) (k .short) (sym (h .is) ∙ k .is) in
+      stands-unique (k .sign) (k .exponent) (k .trailing) x (ofBits f n) i (ofBits-fits f n)
+      (subst (λ (z : ℕ). StandsFor (parameters f) (k .sign) (k .exponent) z x) (q .2) (subst₂ (λ (s : Bool) (e : ℕ). StandsFor (parameters f) s e (h .trailing) x) (q .0) (q .1) (h .value))) (k .value)
 
   -- and a value that is no NaN has one
   pub toBits-meets : (x : Float) → T (fits f x) → Encodes (parameters f) (toBits f x) x

@@ -1,4 +1,5 @@
--- What `fits f` says of a finite value, in units of the format's least positive value: at most p digits, a whole number of units, below 2 ^ (emax + 1). Assumes nothing.
+-- What `fits f` says of a finite value: it has at most p digits, it is a whole number of units of the format's least positive value, and it is below 2 ^ (emax + 1).
+-- Assumes nothing.
 use mathlib.Core.Path.{_≡_, sym, ap, _∙_, subst}
 use mathlib.Core.Logic.{inl, inr}
 use Prim.Native.Nat.{ℕ, zero, suc, _+_, _-_, _*_, _%_, _^_, _≤_, _<_}
@@ -47,8 +48,8 @@ module _ (f : Format) (s : Bool) where
   fits-size m e t =
       let L = low f in
       let M = suc (emax f) in
-      let same : size-at L m e * down e ≡ m * up e * 2 ^ L = mul-assoc (m * up e) (2 ^ (L - depth e)) (down e) ∙ ap (λ (z : ℕ). m * up e * z) (sym (unit-split L e (fits-says m e t .1))) in
-      let all : 2 ^ M * down e * 2 ^ L ≡ 2 ^ (L + M) * down e = mul-right-comm (2 ^ M) (down e) (2 ^ L) ∙ ap (λ (z : ℕ). z * down e) (mul-comm (2 ^ M) (2 ^ L) ∙ sym (pow-add 2 L M)) in
+      let same : size-at L m e * down e ≡ m * up e * 2 ^ L = rw (unit-split L e (fits-says m e t .1)) (mul-assoc (m * up e) (2 ^ (L - depth e)) (down e)) in
+      let all : 2 ^ M * down e * 2 ^ L ≡ 2 ^ (L + M) * down e = rw (pow-add 2 L M) (mul-right-comm (2 ^ M) (down e) (2 ^ L) ∙ ap (λ (z : ℕ). z * down e) (mul-comm (2 ^ M) (2 ^ L))) in
       lt-of-mul-lt-mul-right (down e) (lt-of-le-of-lt (le-of-eq same) (lt-of-lt-of-le (mul-lt-mul-of-pos-right (under m e t) (pow-pos L)) (le-of-eq all)))
 
 -- m * 2 ^ e in units is m times a power of two

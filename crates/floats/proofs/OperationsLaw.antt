@@ -8,10 +8,9 @@ use lib.Dec.{eqb, eqb·suc-zero}
 use lib.Ieee.{Float, nan, inf, fin, Format, up, down, unlike, round, neg, add, sub, mul, div}
 use lib.Ieee.Fits.{up-pos, down-pos}
 use Rattle.floats.specs.Formats.{parameters}
-use Rattle.floats.specs.Rounding.{Rounds}
 use Rattle.floats.specs.Operations.{Adds, opposite, Subtracts, Multiplies, Divides}
 use Rattle.floats.proofs.Sums.{sums, add-is}
-use Rattle.floats.proofs.RoundingLaw.{round-meets}
+use Rattle.floats.proofs.RoundingLaw.{rounds-by}
 
 -- ---- sums
 pub add-meets : (f : Format) (x y : Float) → Adds (parameters f) x y (add f x y)
@@ -25,9 +24,8 @@ add-meets f (inf s) (fin t n d) = unfold add in refl
 add-meets f (fin s m e) nan = unfold add in refl
 add-meets f (fin s m e) (inf t) = unfold add in refl
 add-meets f (fin s m e) (fin t n d) =
-    let c = down e * down d in
-    let z = sums f s (m * up e * down d) t (n * up d * down e) c in
-    (z .0, z .1, z .2, subst (λ (r : Float). Rounds (parameters f) (z .0) (z .1) c r) (sym (add-is f s m e t n d ∙ z .3)) (round-meets f (z .0) (z .1) c (mul-pos (down-pos e) (down-pos d))))
+    let z = sums f s (m * up e * down d) t (n * up d * down e) (down e * down d) in
+    (z .0, z .1, z .2, rounds-by f (mul-pos (down-pos e) (down-pos d)) (add-is f s m e t n d ∙ z .3))
 
 -- ---- negation
 pub neg-meets : (y : Float) → neg y ≡ opposite y
@@ -45,7 +43,8 @@ pub sub-meets : (f : Format) (x y : Float) → Subtracts (parameters f) x y (sub
 sub-meets f x y = subst (λ (r : Float). Subtracts (parameters f) x y r) (sym (sub-is f x y ∙ ap (add f x) (neg-meets y))) (add-meets f x (opposite y))
 
 -- ---- products
-mul-is : (f : Format) (s : Bool) (m : ℕ) (e : ℤ) (t : Bool) (n : ℕ) (d : ℤ) → mul f (fin s m e) (fin t n d) ≡ round f (unlike s t) (m * up e * (n * up d)) (down e * down d)
+mul-is : (f : Format) (s : Bool) (m : ℕ) (e : ℤ) (t : Bool) (n : ℕ) (d : ℤ)
+    → mul f (fin s m e) (fin t n d) ≡ round f (unlike s t) (m * up e * (n * up d)) (down e * down d)
 unfolding mul
 mul-is f s m e t n d = refl
 
@@ -58,13 +57,15 @@ mul-meets f (inf s) (fin t (suc n) d) = unfold mul in ap (λ (b : Bool). cond b 
 mul-meets f (fin s m e) nan = unfold mul in refl
 mul-meets f (fin s zero e) (inf t) = unfold mul in refl
 mul-meets f (fin s (suc m) e) (inf t) = unfold mul in ap (λ (b : Bool). cond b nan (inf (unlike s t))) (eqb·suc-zero m)
-mul-meets f (fin s m e) (fin t n d) =
-    subst (λ (r : Float). Rounds (parameters f) (unlike s t) (m * up e * (n * up d)) (down e * down d) r) (sym (mul-is f s m e t n d)) (round-meets f (unlike s t) (m * up e * (n * up d)) (down e * down d) (mul-pos (down-pos e) (down-pos d)))
+mul-meets f (fin s m e) (fin t n d) = rounds-by f (mul-pos (down-pos e) (down-pos d)) (mul-is f s m e t n d)
 
 -- ---- quotients
-div-is : (f : Format) (s : Bool) (m : ℕ) (e : ℤ) (t : Bool) (n : ℕ) (d : ℤ) → div f (fin s m e) (fin t (suc n) d) ≡ round f (unlike s t) (m * up e * down d) (suc n * up d * down e)
+div-is : (f : Format) (s : Bool) (m : ℕ) (e : ℤ) (t : Bool) (n : ℕ) (d : ℤ)
+    → div f (fin s m e) (fin t (suc n) d) ≡ round f (unlike s t) (m * up e * down d) (suc n * up d * down e)
 unfolding div
-div-is f s m e t n d = ap (λ (b : Bool). cond b (cond (eqb m 0) nan (inf (unlike s t))) (round f (unlike s t) (m * up e * down d) (suc n * up d * down e))) (eqb·suc-zero n)
+div-is f s m e t n d =
+    let r = round f (unlike s t) (m * up e * down d) (suc n * up d * down e) in
+    ap (λ (b : Bool). cond b (cond (eqb m 0) nan (inf (unlike s t))) r) (eqb·suc-zero n)
 
 pub div-meets : (f : Format) (x y : Float) → Divides (parameters f) x y (div f x y)
 div-meets f nan y = unfold div in refl
@@ -75,5 +76,4 @@ div-meets f (fin s m e) nan = unfold div in refl
 div-meets f (fin s m e) (inf t) = unfold div in (refl, refl)
 div-meets f (fin s zero e) (fin t zero d) = unfold div in refl
 div-meets f (fin s (suc m) e) (fin t zero d) = unfold div in ap (λ (b : Bool). cond b nan (inf (unlike s t))) (eqb·suc-zero m)
-div-meets f (fin s m e) (fin t (suc n) d) =
-    subst (λ (r : Float). Rounds (parameters f) (unlike s t) (m * up e * down d) (suc n * up d * down e) r) (sym (div-is f s m e t n d)) (round-meets f (unlike s t) (m * up e * down d) (suc n * up d * down e) (mul-pos (mul-pos (zero-lt-suc n) (up-pos d)) (down-pos e)))
+div-meets f (fin s m e) (fin t (suc n) d) = rounds-by f (mul-pos (mul-pos (zero-lt-suc n) (up-pos d)) (down-pos e)) (div-is f s m e t n d)

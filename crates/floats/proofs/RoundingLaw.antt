@@ -288,3 +288,7 @@ round-meets f s a c C = record { under = near; over = over-signed f s a c C }
           nearest = good f A c C .0;
           tie = λ m x e. elim (good f A c C .1 m x e) [ inl t ↦ inl t | inr t ↦ inr (even-of f Q K (q-le f A c C) (full f A c C) t) ];
         }
+
+-- the same of a result that is known to be it
+pub rounds-by : (f : Format) {s : Bool} {a c : ℕ} {r : Float} → 0 < c → r ≡ round f s a c → Rounds (parameters f) s a c r
+rounds-by f {s} {a} {c} C e = subst (λ (x : Float). Rounds (parameters f) s a c x) (sym e) (round-meets f s a c C)

@@ -1,5 +1,5 @@
 -- The bit strings of a binary format b, written from IEEE 754-2019, 3.4. Definitions only.
--- A string is a sign S, a biased exponent E and a trailing significand T of p - 1 bits. The bias is emax, and E is at most 2 ^ w - 1 = 2 * emax + 1, where it has w bits.
+-- A string is a sign S, a biased exponent E of w bits and a trailing significand T of p - 1 bits. The bias is emax = 2 ^ (w - 1) - 1.
 use mathlib.Core.Path.{_≡_}
 use mathlib.Core.Logic.{_≢_}
 use Prim.Native.Nat.{ℕ, zero, suc, _+_, _-_, _*_, _^_, _≤_, _<_}
@@ -8,7 +8,7 @@ use lib.Ieee.{Float, nan, inf, fin}
 use lib.Ieee.Exact.{HasValue}
 use Rattle.floats.specs.Formats.{Binary, places}
 
--- the largest E: all its bits are ones
+-- the largest E, whose bits are all ones: 2 ^ w - 1
 abbrev pub ones : Binary → ℕ
 ones b = 2 * b .emax + 1
 
@@ -26,10 +26,10 @@ StandsFor b S E T (fin s m e) = (E < ones b) × HasValue (fin s m e) S (signific
 
 -- n, as a number, is a bit string of x
 pub record Encodes (b : Binary) (n : ℕ) (x : Float) : Type 0 where
-  pub S : Bool
-  pub E : ℕ
-  pub T : ℕ
-  pub exponent : E ≤ ones b
-  pub trailing : T < 2 ^ (b .p - 1)
-  pub is : n ≡ (cond S 1 0 * suc (ones b) + E) * 2 ^ (b .p - 1) + T
-  pub value : StandsFor b S E T x
+  pub sign : Bool
+  pub exponent : ℕ
+  pub trailing : ℕ
+  pub low : exponent ≤ ones b
+  pub short : trailing < 2 ^ (b .p - 1)
+  pub is : n ≡ (cond sign 1 0 * suc (ones b) + exponent) * 2 ^ (b .p - 1) + trailing
+  pub value : StandsFor b sign exponent trailing x
