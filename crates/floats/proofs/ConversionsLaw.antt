@@ -1,15 +1,15 @@
 -- The language's conversions meet the definitions of `Conversions`, leave one result only, and where its casts are defined they are exact. Assumes nothing.
-use mathlib.Core.Path.{_≡_, refl, sym, ap, _∙_, subst}
+use mathlib.Core.Path.{_≡_, refl, sym, _∙_}
 use Prim.Native.Nat.{ℕ, suc, _+_, _*_, _^_, _≤_}
 use native.Mathlib.Nat.{lt-of-lt-of-le, zero-lt-suc, mul-assoc}
 use native.Mathlib.Omega.{arith}
-use mathlib.Core.Bool.{Bool, true, false, not}
+use mathlib.Core.Bool.{true, false, not}
 use lib.IntN.{ℤ, pos, negsuc, natAbs}
 use lib.Signed.{nonNeg}
 use lib.Dec.{T, le→leb, lt→ltb, lit≤}
 use lib.Pow.{pow-add}
 use lib.Ieee as ieee
-use lib.Ieee.{Float, nan, inf, fin, Format, prec, up, down, round, fits, ofInt, inFloat}
+use lib.Ieee.{Float, nan, inf, fin, Format, prec, up, down, fits, ofInt, inFloat}
 use lib.Ieee.Exact.{HasValue}
 use lib.Ieee.Fits.{down-pos, fits-widens, ofInt-fits}
 use lib.Ieee.Back.{round-whole}

@@ -16,26 +16,47 @@ use Rattle.floats.specs.Encodings.{significand, StandsFor, Encodes}
 use Rattle.floats.proofs.Same.{value→same}
 
 -- ---- three fields
-finite : (f : Format) (S : Bool) (E D : ℕ) (x : Float) → E < ones f → HasValue x S (significand (parameters f) E D * 2 ^ (E - 1)) (2 ^ low f) → StandsFor (parameters f) S E D x
-finite f S E D nan l v = absurd v
-finite f S E D (inf s) l v = absurd v
-finite f S E D (fin s m e) l v = (l, v)
+module _ (f : Format) (S : Bool) where
+  abbrev Stands : ℕ → ℕ → Float → Type 0
+  Stands = StandsFor (parameters f) S
 
-fields-stand : (f : Format) (S : Bool) (E D : ℕ) → E ≤ ones f → StandsFor (parameters f) S E D (ofFields f S E D)
-unfolding ofFields
-fields-stand f S zero D l = finite f S 0 D (odd (prec f) S D 0 (low f)) (omega arith) (odd-sign (prec f) S D 0 (low f))
-fields-stand f S (suc E) D l = go (eqb (suc E) (ones f)) (eqb D 0) (eqb→eq (suc E) (ones f)) (λ (e : suc E ≡ ones f). eq→eqb e) (eqb→eq D 0) (λ (e : D ≡ 0). eq→eqb e)
-  where
-    x : Float
-    x = odd (prec f) S (hid f + D) E (low f)
+  finite : (E D : ℕ) (x : Float) → E < ones f → HasValue x S (significand (parameters f) E D * 2 ^ (E - 1)) (2 ^ low f) → Stands E D x
+  finite E D nan l v = absurd v
+  finite E D (inf s) l v = absurd v
+  finite E D (fin s m e) l v = (l, v)
 
-    less-one : (k : ℕ) → k ≡ suc k - 1
-    less-one k = omega arith
+  fields-stand : (E D : ℕ) → E ≤ ones f → Stands E D (ofFields f S E D)
+  unfolding ofFields
+  fields-stand zero D l = finite 0 D (odd (prec f) S D 0 (low f)) (omega arith) (odd-sign (prec f) S D 0 (low f))
+  fields-stand (suc E) D l =
+      go (eqb (suc E) (ones f)) (eqb D 0) (eqb→eq (suc E) (ones f)) (λ (e : suc E ≡ ones f). eq→eqb e) (eqb→eq D 0) (λ (e : D ≡ 0). eq→eqb e)
+    where
+      x : Float
+      x = odd (prec f) S (hid f + D) E (low f)
 
-    go : (a z : Bool) → (T a → suc E ≡ ones f) → (suc E ≡ ones f → T a) → (T z → D ≡ 0) → (D ≡ 0 → T z) → StandsFor (parameters f) S (suc E) D (cond a (cond z (inf S) nan) x)
-    go true true p q i j = (p tt, i tt, refl)
-    go true false p q i j = (p tt, j)
-    go false z p q i j = finite f S (suc E) D x (lt-of-le-ne l q) (subst (λ (k : ℕ). HasValue x S ((hid f + D) * 2 ^ k) (2 ^ low f)) (less-one E) (odd-sign (prec f) S (hid f + D) E (low f)))
+      value : HasValue x S ((hid f + D) * 2 ^ (suc E - 1)) (2 ^ low f)
+      value = subst (λ (k : ℕ). HasValue x S ((hid f + D) * 2 ^ k) (2 ^ low f)) (less-one E) (odd-sign (prec f) S (hid f + D) E (low f))
+        where
+          less-one : (k : ℕ) → k ≡ suc k - 1
+          less-one k = omega arith
+
+      go : (a z : Bool) → (T a → suc E ≡ ones f) → (suc E ≡ ones f → T a) → (T z → D ≡ 0) → (D ≡ 0 → T z)
+          → Stands (suc E) D (cond a (cond z (inf S) nan) x)
+      go true true p q i j = (p tt, i tt, refl)
+      go true false p q i j = (p tt, j)
+      go false z p q i j = finite (suc E) D x (lt-of-le-ne l q) value
+
+  stands-unique : (E D : ℕ) (x y : Float) → T (fits f x) → T (fits f y) → Stands E D x → Stands E D y → x ≡ y
+  stands-unique E D nan nan i j h k = refl
+  stands-unique E D nan (inf t) i j h k = absurd (h .1 (k .1))
+  stands-unique E D nan (fin t n d) i j h k = absurd (omega (arith, h .0, k .0))
+  stands-unique E D (inf s) nan i j h k = absurd (k .1 (h .1))
+  stands-unique E D (inf s) (inf t) i j h k = ap inf (h .2 ∙ sym (k .2))
+  stands-unique E D (inf s) (fin t n d) i j h k = absurd (omega (arith, h .0, k .0))
+  stands-unique E D (fin s m e) nan i j h k = absurd (omega (arith, h .0, k .0))
+  stands-unique E D (fin s m e) (inf t) i j h k = absurd (omega (arith, h .0, k .0))
+  stands-unique E D (fin s m e) (fin t n d) i j h k =
+      value→same f S (significand (parameters f) E D * 2 ^ (E - 1)) (2 ^ low f) (fin s m e) (fin t n d) (pow-pos (low f)) i j (h .1) (k .1)
 
 -- ---- a number by its fields, for W values of E and H of T
 module _ (H W : ℕ) (hp : 0 < H) (wp : 0 < W) where
@@ -64,7 +85,8 @@ module _ (H W : ℕ) (hp : 0 < H) (wp : 0 < W) where
   number n h = sym (div-add-mod' n H) ∙ ap (λ (z : ℕ). z * H + n % H) (sign-and-exponent n h ∙ ap (λ (z : ℕ). cond (leb (H * W) n) 1 0 * W + z) (sym (upper n)))
 
   -- the fields are one number's only
-  same-fields : (S S' : Bool) (E E' D D' : ℕ) → E < W → E' < W → D < H → D' < H → (cond S 1 0 * W + E) * H + D ≡ (cond S' 1 0 * W + E') * H + D' → (S ≡ S') × (E ≡ E') × (D ≡ D')
+  same-fields : (S S' : Bool) (E E' D D' : ℕ) → E < W → E' < W → D < H → D' < H
+      → (cond S 1 0 * W + E) * H + D ≡ (cond S' 1 0 * W + E') * H + D' → (S ≡ S') × (E ≡ E') × (D ≡ D')
   same-fields S S' E E' D D' e e' d d' h =
       let q = sym (digits-div (cond S 1 0 * W + E) d) ∙ ap (λ (z : ℕ). z / H) h ∙ digits-div (cond S' 1 0 * W + E') d' in
       let s = sym (digits-div (cond S 1 0) e) ∙ ap (λ (z : ℕ). z / W) q ∙ digits-div (cond S' 1 0) e' in (
@@ -93,8 +115,14 @@ module _ (H W : ℕ) (hp : 0 < H) (wp : 0 < W) where
 
 -- ---- the laws
 module _ (f : Format) where
+  abbrev W : ℕ
+  W = suc (ones f)
+
   hp : 0 < hid f
   hp = pow-pos (prec f - 1)
+
+  wp : 0 < W
+  wp = zero-lt-suc (ones f)
 
   pub ofBits-meets : (n : ℕ) → n < 2 * top f → Encodes (parameters f) n (ofBits f n)
   unfolding ofBits
@@ -102,36 +130,28 @@ module _ (f : Format) where
       let S = leb (top f) n in
       let E = n % top f / hid f in
       let D = n % hid f in
-      let l : E ≤ ones f = le-of-suc-le-suc (div-lt-iff-lt-mul hp .1 (lt-of-lt-of-le (mod-lt n (mul-pos hp (zero-lt-suc (ones f)))) (le-of-eq (mul-comm (hid f) (suc (ones f)))))) in
-      record { sign = S; exponent = E; trailing = D; low = l; short = mod-lt n hp; is = number (hid f) (suc (ones f)) hp (zero-lt-suc (ones f)) n h; value = fields-stand f S E D l }
+      let l : E < W = div-lt-iff-lt-mul hp .1 (lt-of-lt-of-le (mod-lt n (mul-pos hp wp)) (le-of-eq (mul-comm (hid f) W))) in
+      let E-le = le-of-suc-le-suc l in
+      record { sign = S; exponent = E; trailing = D; low = E-le; short = mod-lt n hp; is = number (hid f) W hp wp n h; value = fields-stand f S E D E-le }
 
-  stands-unique : (S : Bool) (E D : ℕ) (x y : Float) → T (fits f x) → T (fits f y) → StandsFor (parameters f) S E D x → StandsFor (parameters f) S E D y → x ≡ y
-  stands-unique S E D nan nan i j h k = refl
-  stands-unique S E D nan (inf t) i j h k = absurd (h .1 (k .1))
-  stands-unique S E D nan (fin t n d) i j h k = absurd (omega (arith, h .0, k .0))
-  stands-unique S E D (inf s) nan i j h k = absurd (k .1 (h .1))
-  stands-unique S E D (inf s) (inf t) i j h k = ap inf (h .2 ∙ sym (k .2))
-  stands-unique S E D (inf s) (fin t n d) i j h k = absurd (omega (arith, h .0, k .0))
-  stands-unique S E D (fin s m e) nan i j h k = absurd (omega (arith, h .0, k .0))
-  stands-unique S E D (fin s m e) (inf t) i j h k = absurd (omega (arith, h .0, k .0))
-  stands-unique S E D (fin s m e) (fin t n d) i j h k = value→same f S (significand (parameters f) E D * 2 ^ (E - 1)) (2 ^ low f) (fin s m e) (fin t n d) (pow-pos (low f)) i j (h .1) (k .1)
+  module _ (n : ℕ) (x : Float) (i : T (fits f x)) (h : Encodes (parameters f) n x) where
+    below : n < 2 * top f
+    below = lt-of-le-of-lt (le-of-eq (h .is)) (in-width (hid f) W hp wp (h .sign) (h .exponent) (h .trailing) (suc-le-suc-iff .1 (h .low)) (h .short))
 
-  encodes-width : (n : ℕ) (x : Float) → Encodes (parameters f) n x → n < 2 * top f
-  encodes-width n x h = lt-of-le-of-lt (le-of-eq (h .is)) (in-width (hid f) (suc (ones f)) hp (zero-lt-suc (ones f)) (h .sign) (h .exponent) (h .trailing) (suc-le-suc-iff .1 (h .low)) (h .short))
+    -- a bit string is one value's
+    pub ofBits-only : x ≡ ofBits f n
+    ofBits-only =
+        let k = ofBits-meets n below in
+        let q =
+        same-fields (hid f) W hp wp (h .sign) (k .sign) (h .exponent) (k .exponent) (h .trailing) (k .trailing)
+        (suc-le-suc-iff .1 (h .low)) (suc-le-suc-iff .1 (k .low)) (h .short) (k .short) (sym (h .is) ∙ k .is) in
+        let v = subst₂ (λ (s : Bool) (e : ℕ). StandsFor (parameters f) s e (h .trailing) x) (q .0) (q .1) (h .value) in
+        let u = subst (λ (d : ℕ). StandsFor (parameters f) (k .sign) (k .exponent) d x) (q .2) v in
+        stands-unique f (k .sign) (k .exponent) (k .trailing) x (ofBits f n) i (ofBits-fits f n) u (k .value)
 
-  -- a bit string is one value's
-  pub ofBits-only : (n : ℕ) (x : Float) → T (fits f x) → Encodes (parameters f) n x → x ≡ ofBits f n
-  ofBits-only n x i h =
-      let k = ofBits-meets n (encodes-width n x h) in
-      let q = same-fields (hid f) (suc (ones f)) hp (zero-lt-suc (ones f)) (h .sign) (k .sign) (h .exponent) (k .exponent) (h .trailing) (k .trailing) (suc-le-suc-iff .1 (h .low)) (suc-le-suc-iff .1 (k .low)) (h .short) (k .short) (sym (h .is) ∙ k .is) in
-      stands-unique (k .sign) (k .exponent) (k .trailing) x (ofBits f n) i (ofBits-fits f n)
-      (subst (λ (z : ℕ). StandsFor (parameters f) (k .sign) (k .exponent) z x) (q .2) (subst₂ (λ (s : Bool) (e : ℕ). StandsFor (parameters f) s e (h .trailing) x) (q .0) (q .1) (h .value))) (k .value)
+    -- and a value that is no NaN has one bit string
+    pub toBits-only : T (not (isNan x)) → n ≡ toBits f x
+    toBits-only r = sym (ap (toBits f) ofBits-only ∙ toBits-ofBits f n below (rw ofBits-only at r))
 
-  -- and a value that is no NaN has one
   pub toBits-meets : (x : Float) → T (fits f x) → Encodes (parameters f) (toBits f x) x
   toBits-meets x i = subst (λ (y : Float). Encodes (parameters f) (toBits f x) y) (ofBits-toBits f x i) (ofBits-meets (toBits f x) (toBits-lt f x i))
-
-  pub toBits-only : (x : Float) (n : ℕ) → T (fits f x) → T (not (isNan x)) → Encodes (parameters f) n x → n ≡ toBits f x
-  toBits-only x n i r h =
-      let e = ofBits-only n x i h in
-      sym (ap (toBits f) e ∙ toBits-ofBits f n (encodes-width n x h) (subst (λ (y : Float). T (not (isNan y))) e r))

@@ -1,4 +1,4 @@
--- What `fits f` says of a finite value: it has at most p digits, it is a whole number of units of the format's least positive value, and it is below 2 ^ (emax + 1).
+-- What `fits f` says of a finite value: at most p digits, a whole number of units of the format's least positive value, and below 2 ^ (emax + 1).
 -- Assumes nothing.
 use mathlib.Core.Path.{_≡_, sym, ap, _∙_, subst}
 use mathlib.Core.Logic.{inl, inr}
@@ -49,7 +49,7 @@ module _ (f : Format) (s : Bool) where
       let L = low f in
       let M = suc (emax f) in
       let same : size-at L m e * down e ≡ m * up e * 2 ^ L = rw (unit-split L e (fits-says m e t .1)) (mul-assoc (m * up e) (2 ^ (L - depth e)) (down e)) in
-      let all : 2 ^ M * down e * 2 ^ L ≡ 2 ^ (L + M) * down e = rw (pow-add 2 L M) (mul-right-comm (2 ^ M) (down e) (2 ^ L) ∙ ap (λ (z : ℕ). z * down e) (mul-comm (2 ^ M) (2 ^ L))) in
+      let all : 2 ^ M * down e * 2 ^ L ≡ 2 ^ (L + M) * down e = rw (pow-add 2 L M, mul-comm (2 ^ L) (2 ^ M)) (mul-right-comm (2 ^ M) (down e) (2 ^ L)) in
       lt-of-mul-lt-mul-right (down e) (lt-of-le-of-lt (le-of-eq same) (lt-of-lt-of-le (mul-lt-mul-of-pos-right (under m e t) (pow-pos L)) (le-of-eq all)))
 
 -- m * 2 ^ e in units is m times a power of two

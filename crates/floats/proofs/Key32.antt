@@ -1,4 +1,5 @@
--- One key for all values of binary32: in units of 2 ^ -149, moved up by 2 ^ 277, so that it is a natural number. `lt`, `le` and `eq` are <, ≤ and ≡ of keys. Assumes nothing.
+-- One key for all values of binary32: in units of 2 ^ -149, moved up by 2 ^ 277, so that it is a natural number. `lt`, `le` and `eq` are <, ≤ and ≡ of keys.
+-- Assumes nothing.
 use mathlib.Core.Path.{_≡_}
 use mathlib.Core.Logic.{_↔_}
 use Prim.Native.Nat.{ℕ, _^_, _≤_, _<_}

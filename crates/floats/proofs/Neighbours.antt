@@ -34,7 +34,8 @@ apart p P l j g k L G = elim (lt-or-le j k) [ inl h ↦ inl (small h) | inr h �
     large : k ≤ j → (l * 2 ^ j ≤ g * 2 ^ k) ⊎ (suc g * 2 ^ k ≤ l * 2 ^ j)
     large h =
         let w = l * 2 ^ (j - k) in
-        let e : l * 2 ^ j ≡ w * 2 ^ k = ap (λ (z : ℕ). l * 2 ^ z) (back j k h) ∙ ap (λ (z : ℕ). l * z) (pow-add 2 (j - k) k) ∙ sym (mul-assoc l (2 ^ (j - k)) (2 ^ k)) in
+        let p : 2 ^ j ≡ 2 ^ (j - k) * 2 ^ k = ap (λ (z : ℕ). 2 ^ z) (back j k h) ∙ pow-add 2 (j - k) k in
+        let e : l * 2 ^ j ≡ w * 2 ^ k = ap (λ (z : ℕ). l * z) p ∙ sym (mul-assoc l (2 ^ (j - k)) (2 ^ k)) in
         elim (lt-or-le g w) [ inl u ↦ inr (rw e (mul-le-mul-right (2 ^ k) u)) | inr u ↦ inl (rw e (mul-le-mul-right (2 ^ k) u)) ]
       where
         back : (j k : ℕ) → k ≤ j → j ≡ j - k + k
@@ -59,7 +60,8 @@ gap b =
     plus? p && (plus? t && (eqb (sizeOf 149 p) (digits b * 2 ^ field b) && eqb (sizeOf 149 t) (suc (digits b) * 2 ^ field b)))
 
 -- each value of binary32 is at most the one or at least the other
-sides : (s : Bool) (m : ℕ) (e : ℤ) (p t : Float) (g k : ℕ) → T (fits binary32 (fin s m e)) → T (plus? p) → T (plus? t) → 2 ^ 23 ≤ g → sizeOf 149 p ≡ g * 2 ^ k → sizeOf 149 t ≡ suc g * 2 ^ k
+sides : (s : Bool) (m : ℕ) (e : ℤ) (p t : Float) (g k : ℕ) → T (fits binary32 (fin s m e)) → T (plus? p) → T (plus? t) → 2 ^ 23 ≤ g
+    → sizeOf 149 p ≡ g * 2 ^ k → sizeOf 149 t ≡ suc g * 2 ^ k
     → T (le (fin s m e) p) ⊎ T (le t (fin s m e))
 sides true m e (fin false n d) (fin false n' d') g k f a b G x y =
     let F = fits-says binary32 true m e f in

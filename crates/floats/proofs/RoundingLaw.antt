@@ -2,7 +2,7 @@
 use mathlib.Core.Path.{_≡_, refl, sym, ap, ap₂, _∙_, subst}
 use mathlib.Core.Logic.{_⊎_, inl, inr}
 use Prim.Native.Nat.{ℕ, zero, suc, _+_, _-_, _*_, _/_, _%_, _^_, _≤_, _<_, zero-le, compare, Ordering, Ordering·lt, Ordering·eq, Ordering·gt}
-use native.Mathlib.Nat.{le-of-eq, le-of-lt, le-trans, le-refl, lt-of-lt-of-le, lt-of-le-of-lt, lt-irrefl, mul-comm, mul-assoc, mul-left-comm, mul-right-comm, mul-one, one-mul, mul-pos, mul-sub, mul-le-mul-right, mul-mod-left, mod-lt, div-add-mod', div-div-eq-div-mul, le-div-iff-mul-le, suc-mul, pow-suc, eq-or-lt-of-le, mul-lt-mul-of-pos-right, eq-of-mul-eq-mul-right}
+use native.Mathlib.Nat.{le-of-eq, le-of-lt, le-trans, le-refl, lt-of-lt-of-le, lt-of-le-of-lt, lt-irrefl, mul-comm, mul-assoc, mul-left-comm, mul-right-comm, mul-one, mul-pos, mul-sub, mul-le-mul-right, mul-mod-left, mod-lt, div-add-mod', div-div-eq-div-mul, le-div-iff-mul-le, suc-mul, pow-suc, eq-or-lt-of-le, mul-lt-mul-of-pos-right, eq-of-mul-eq-mul-right}
 use native.Mathlib.Omega.{arith}
 use mathlib.Core.Bool.{Bool, true, false, not}
 use lib.Dec.{T, isLe, isEq, eqb, eqb→eq, eqb-refl, leb→le, nleb→lt}
@@ -43,7 +43,8 @@ nearer : (A L u r x : ℕ) → L + r ≡ A → r < u → (x ≤ L) ⊎ (L + u �
 nearer A L u r x a b (inl h) = (λ (t : r * 2 ≤ u). omega arith, λ (t : u ≤ r * 2). omega arith)
 nearer A L u r x a b (inr h) = (λ (t : r * 2 ≤ u). omega arith, λ (t : u ≤ r * 2). omega arith)
 
-only : (A L u r x : ℕ) → L + r ≡ A → r < u → (x ≤ L) ⊎ (L + u ≤ x) → ((r * 2 < u) → gap A L ≡ gap A x → L ≡ x) × ((u < r * 2) → gap A (L + u) ≡ gap A x → L + u ≡ x)
+only : (A L u r x : ℕ) → L + r ≡ A → r < u → (x ≤ L) ⊎ (L + u ≤ x)
+    → ((r * 2 < u) → gap A L ≡ gap A x → L ≡ x) × ((u < r * 2) → gap A (L + u) ≡ gap A x → L + u ≡ x)
 only A L u r x a b (inl h) = (λ (t : r * 2 < u) (e : gap A L ≡ gap A x). omega arith, λ (t : u < r * 2) (e : gap A (L + u) ≡ gap A x). omega arith)
 only A L u r x a b (inr h) = (λ (t : r * 2 < u) (e : gap A L ≡ gap A x). omega arith, λ (t : u < r * 2) (e : gap A (L + u) ≡ gap A x). omega arith)
 
@@ -89,16 +90,15 @@ module _ (f : Format) where
   datum-of q k h g l = elim (eq-or-lt-of-le h) [ inl t ↦ whole t | inr i ↦ record { digits = q; power = k; short = i; low = few g; is = refl } ]
     where
       whole : q ≡ 2 ^ p → Datum b (q * 2 ^ k)
-      whole t = record { digits = 2 ^ (p - 1); power = suc k; short = half-lt; low = small (power-lt (p + k) (low f + suc (emax f)) (lt-of-le-of-lt (le-of-eq (pow-add 2 p k ∙ ap (λ (z : ℕ). z * 2 ^ k) (sym t))) l)); is = ap (λ (z : ℕ). z * 2 ^ k) t ∙ next-power k }
-        where
-          small : p + k < low f + suc (emax f) → suc k ≤ span b
-          small h = omega (arith, two f)
+      whole t =
+          let top : 2 ^ (p + k) ≡ q * 2 ^ k = pow-add 2 p k ∙ ap (λ (z : ℕ). z * 2 ^ k) (sym t) in
+          let few = power-lt (p + k) (low f + suc (emax f)) (lt-of-le-of-lt (le-of-eq top) l) in
+          record { digits = 2 ^ (p - 1); power = suc k; short = half-lt; low = omega (arith, two f); is = ap (λ (z : ℕ). z * 2 ^ k) t ∙ next-power k }
 
       few : (2 ^ (p - 1) ≤ q) ⊎ (k ≡ 0) → k ≤ span b
-      few (inl g) = small (power-lt (p - 1 + k) (low f + suc (emax f)) (lt-of-le-of-lt (le-trans (le-of-eq (pow-add 2 (p - 1) k)) (mul-le-mul-right (2 ^ k) g)) l))
-        where
-          small : p - 1 + k < low f + suc (emax f) → k ≤ span b
-          small h = omega (arith, two f)
+      few (inl g) =
+          let h = power-lt (p - 1 + k) (low f + suc (emax f)) (lt-of-le-of-lt (le-trans (le-of-eq (pow-add 2 (p - 1) k)) (mul-le-mul-right (2 ^ k) g)) l) in
+          omega (arith, two f)
       few (inr z) = omega arith
 
 -- ---- the numbers that `round` works with, for A / c units
@@ -149,7 +149,7 @@ module _ (f : Format) (A c : ℕ) (C : 0 < c) where
           let v : w * 2 ^ k ≡ w = ap (λ (z : ℕ). w * z) one ∙ mul-one w in
           let y : suc w * 2 ^ k ≡ suc w = ap (λ (z : ℕ). suc w * z) one ∙ mul-one (suc w) in
           elim (lt-or-le w m) [ inl l ↦ inr (subst (λ (z : ℕ). z ≤ m) (sym y) l) | inr l ↦ inl (subst (λ (z : ℕ). m ≤ z) (sym v) l) ]
-      go (suc j) e g = subst (λ (z : ℕ). (z ≤ w * 2 ^ k) ⊎ (suc w * 2 ^ k ≤ z)) (sym (x .is)) (apart d (P f) (x .digits) (x .power) w k (x .short) (g (omega arith)))
+      go (suc j) e g = rw (x .is) (apart d (P f) (x .digits) (x .power) w k (x .short) (g (omega arith)))
 
   full : (2 ^ (d - 1) ≤ q) ⊎ (k ≡ 0)
   full = elim (eq-or-lt-of-le {n = 0} {m = k} zero-le) [ inl z ↦ inr (sym z) | inr l ↦ inl (le-trans (w-ge l) (nearest-ge w (compare (A % u * 2) u))) ]
@@ -172,7 +172,9 @@ module _ (f : Format) (A c : ℕ) (C : 0 < c) where
 
   -- the choice, by how twice the remainder compares
   abbrev Good : ℕ → Type 0
-  Good v = ((m : ℕ) → Datum (parameters f) m → gap A (v * 2 ^ k * c) ≤ gap A (m * c)) × ((m : ℕ) → Datum (parameters f) m → gap A (v * 2 ^ k * c) ≡ gap A (m * c) → (v * 2 ^ k ≡ m) ⊎ (v % 2 ≡ 0))
+  Good v =
+      ((m : ℕ) → Datum (parameters f) m → gap A (v * 2 ^ k * c) ≤ gap A (m * c))
+      × ((m : ℕ) → Datum (parameters f) m → gap A (v * 2 ^ k * c) ≡ gap A (m * c) → (v * 2 ^ k ≡ m) ⊎ (v % 2 ≡ 0))
 
   same : (v m : ℕ) → v * u ≡ m * c → v * 2 ^ k ≡ m
   same v m e = eq-of-mul-eq-mul-right c C (v * 2 ^ k) m (over-c v ∙ e)
@@ -180,20 +182,23 @@ module _ (f : Format) (A c : ℕ) (C : 0 < c) where
   down : A % u * 2 ≤ u → (A % u * 2 < u) ⊎ (w % 2 ≡ 0) → Good w
   down h t = (
     λ m x. subst (λ (z : ℕ). gap A z ≤ gap A (m * c)) (sym (over-c w)) (nearer A (w * u) u (A % u) (m * c) parts rest (sides-c m x) .0 h),
-    λ m x e. elim t [ inl s ↦ inl (same w m (only A (w * u) u (A % u) (m * c) parts rest (sides-c m x) .0 s (subst (λ (z : ℕ). gap A z ≡ gap A (m * c)) (over-c w) e))) | inr v ↦ inr v ],
+    λ m x e. elim t [ inl s ↦ inl (same w m (only A (w * u) u (A % u) (m * c) parts rest (sides-c m x) .0 s (rw (over-c w) at e))) | inr v ↦ inr v ],
   )
 
   up : u ≤ A % u * 2 → (u < A % u * 2) ⊎ (suc w % 2 ≡ 0) → Good (suc w)
   up h t =
       let o = over-c (suc w) ∙ next-is in (
         λ m x. subst (λ (z : ℕ). gap A z ≤ gap A (m * c)) (sym o) (nearer A (w * u) u (A % u) (m * c) parts rest (sides-c m x) .1 h),
-        λ m x e. elim t [ inl s ↦ inl (same (suc w) m (next-is ∙ only A (w * u) u (A % u) (m * c) parts rest (sides-c m x) .1 s (subst (λ (z : ℕ). gap A z ≡ gap A (m * c)) o e))) | inr v ↦ inr v ],
+        λ m x e. elim t [ inl s ↦ inl (same (suc w) m (next-is ∙ only A (w * u) u (A % u) (m * c) parts rest (sides-c m x) .1 s (rw o at e))) | inr v ↦ inr v ],
       )
 
   choose : (o : Ordering) → Cmp o (A % u * 2) u → Good (nearest w o)
   choose Ordering·lt h = down (le-of-lt h) (inl h)
   choose Ordering·gt h = up (le-of-lt h) (inl h)
-  choose Ordering·eq h = elim (parity w) [ inl p ↦ subst Good (sym (p .0)) (down (le-of-eq h) (inr (p .1))) | inr p ↦ subst Good (sym (p .0)) (up (le-of-eq (sym h)) (inr (p .1))) ]
+  choose Ordering·eq h = elim (parity w) [
+    | inl p ↦ subst Good (sym (p .0)) (down (le-of-eq h) (inr (p .1)))
+    | inr p ↦ subst Good (sym (p .0)) (up (le-of-eq (sym h)) (inr (p .1)))
+  ]
     where
       parity : (v : ℕ) → ((v + v % 2 ≡ v) × (v % 2 ≡ 0)) ⊎ ((v + v % 2 ≡ suc v) × (suc v % 2 ≡ 0))
       parity v = elim (lt-or-le 0 (v % 2)) [ inl l ↦ inr (omega arith, omega arith) | inr l ↦ inl (omega arith, omega arith) ]
@@ -201,35 +206,52 @@ module _ (f : Format) (A c : ℕ) (C : 0 < c) where
   good : Good q
   good = choose (compare (A % u * 2) u) (cmp (A % u * 2) u)
 
-  -- ---- below the threshold the result is below 2 ^ (emax + 1): the largest datum is nearer than what lies from there on. H is half a unit of its last digit, times c
+  -- ---- below the threshold the result is below 2 ^ (emax + 1): the largest datum is nearer than what lies from there on.
+  -- H is half a unit of that datum's last digit, and X is 2 ^ (emax + 1), both times c
   fits-in : A < 2 ^ (2 * emax f - 2) * c * (2 * 2 ^ d - 1) → q * 2 ^ k < 2 ^ (low f + suc (emax f))
-  fits-in h = elim (lt-or-le (q * 2 ^ k) (2 ^ (low f + suc (emax f)))) [ inl l ↦ l | inr l ↦ absurd (clash A H X (q * 2 ^ k * c) (mul-pos (pow-pos (2 * emax f - 2)) C) (subst (λ (z : ℕ). A < z) below-top h) (from-top l) (subst (λ (z : ℕ). gap A (q * 2 ^ k * c) ≤ gap A z) most-is (good .0 ((2 ^ d - 1) * 2 ^ span (parameters f)) most))) ]
+  fits-in h = elim (lt-or-le (q * 2 ^ k) (2 ^ (low f + suc (emax f)))) [
+    | inl l ↦ l
+    | inr l ↦ absurd (clash A H X (q * 2 ^ k * c) H-pos (rw below-top at h) (from-top l) nearer-most)
+  ]
     where
+      M : ℕ
+      M = span (parameters f)
+
       H : ℕ
       H = 2 ^ (2 * emax f - 2) * c
 
       X : ℕ
       X = 2 ^ d * (H * 2)
 
-      two-halves : 2 ^ span (parameters f) * c ≡ H * 2
-      two-halves = ap (λ (z : ℕ). 2 ^ z * c) (omega (arith, emax-two f)) ∙ ap (λ (z : ℕ). z * c) (pow-suc 2 (2 * emax f - 2)) ∙ mul-right-comm (2 ^ (2 * emax f - 2)) 2 c
+      H-pos : 0 < H
+      H-pos = mul-pos (pow-pos (2 * emax f - 2)) C
+
+      two-halves : 2 ^ M * c ≡ H * 2
+      two-halves =
+          let e : M ≡ suc (2 * emax f - 2) = omega (arith, emax-two f) in
+          ap (λ (z : ℕ). 2 ^ z * c) e ∙ ap (λ (z : ℕ). z * c) (pow-suc 2 (2 * emax f - 2)) ∙ mul-right-comm (2 ^ (2 * emax f - 2)) 2 c
 
       below-top : H * (2 * 2 ^ d - 1) ≡ X - H
       below-top = mul-sub H (2 * 2 ^ d) 1 ∙ ap₂ (λ (y z : ℕ). y - z) (sym (mul-assoc H 2 (2 ^ d)) ∙ mul-comm (H * 2) (2 ^ d)) (mul-one H)
 
-      most : Datum (parameters f) ((2 ^ d - 1) * 2 ^ span (parameters f))
-      most = record { digits = 2 ^ d - 1; power = span (parameters f); short = ones-lt d; low = le-refl (span (parameters f)); is = refl }
+      most : Datum (parameters f) ((2 ^ d - 1) * 2 ^ M)
+      most = record { digits = 2 ^ d - 1; power = M; short = ones-lt d; low = le-refl M; is = refl }
 
-      most-is : (2 ^ d - 1) * 2 ^ span (parameters f) * c ≡ X - H * 2
+      most-is : (2 ^ d - 1) * 2 ^ M * c ≡ X - H * 2
       most-is =
-          mul-assoc (2 ^ d - 1) (2 ^ span (parameters f)) c ∙ ap (λ (z : ℕ). (2 ^ d - 1) * z) two-halves ∙ mul-comm (2 ^ d - 1) (H * 2) ∙ mul-sub (H * 2) (2 ^ d) 1
+          mul-assoc (2 ^ d - 1) (2 ^ M) c ∙ ap (λ (z : ℕ). (2 ^ d - 1) * z) two-halves ∙ mul-comm (2 ^ d - 1) (H * 2) ∙ mul-sub (H * 2) (2 ^ d) 1
           ∙ ap₂ (λ (y z : ℕ). y - z) (mul-comm (H * 2) (2 ^ d)) (mul-one (H * 2))
+
+      nearer-most : gap A (q * 2 ^ k * c) ≤ gap A (X - H * 2)
+      nearer-most = subst (λ (z : ℕ). gap A (q * 2 ^ k * c) ≤ gap A z) most-is (good .0 ((2 ^ d - 1) * 2 ^ M) most)
 
       from-top : 2 ^ (low f + suc (emax f)) ≤ q * 2 ^ k → X ≤ q * 2 ^ k * c
       from-top l = le-trans (le-of-eq top-is) (mul-le-mul-right c l)
         where
           top-is : X ≡ 2 ^ (low f + suc (emax f)) * c
-          top-is = ap (λ (z : ℕ). 2 ^ d * z) (sym two-halves) ∙ sym (mul-assoc (2 ^ d) (2 ^ span (parameters f)) c) ∙ ap (λ (z : ℕ). z * c) (sym (pow-add 2 d (span (parameters f)))) ∙ ap (λ (z : ℕ). 2 ^ z * c) (omega (arith, two f, emax-two f))
+          top-is =
+              ap (λ (z : ℕ). 2 ^ d * z) (sym two-halves) ∙ sym (mul-assoc (2 ^ d) (2 ^ M) c) ∙ ap (λ (z : ℕ). z * c) (sym (pow-add 2 d M))
+              ∙ ap (λ (z : ℕ). 2 ^ z * c) (omega (arith, two f, emax-two f))
 
       clash : (A H X N : ℕ) → 0 < H → A < X - H → X ≤ N → gap A N ≤ gap A (X - H * 2) → ⊥
       clash A H X N p a b g = omega arith
@@ -245,7 +267,9 @@ under-limit f a c h = lt-of-le-of-lt (le-of-eq units-of) (lt-of-lt-of-le (mul-lt
     W = 2 * 2 ^ prec f - 1
 
     units-of : a * 2 ^ low f ≡ a * 2 ^ prec f * 2 ^ (emax f - 2)
-    units-of = ap (λ (z : ℕ). a * 2 ^ z) (omega (arith, emax-two f)) ∙ ap (λ (z : ℕ). a * z) (pow-add 2 (prec f) (emax f - 2)) ∙ sym (mul-assoc a (2 ^ prec f) (2 ^ (emax f - 2)))
+    units-of =
+        ap (λ (z : ℕ). a * 2 ^ z) (omega (arith, emax-two f)) ∙ ap (λ (z : ℕ). a * z) (pow-add 2 (prec f) (emax f - 2))
+        ∙ sym (mul-assoc a (2 ^ prec f) (2 ^ (emax f - 2)))
 
     halves : 2 ^ emax f * 2 ^ (emax f - 2) ≡ 2 ^ (2 * emax f - 2)
     halves = sym (pow-add 2 (emax f) (emax f - 2)) ∙ ap (λ (z : ℕ). 2 ^ z) (omega (arith, emax-two f))
@@ -266,7 +290,7 @@ top (inf false) h = refl
 top (fin s m e) h = absurd h
 
 over-limit : (f : Format) (a c : ℕ) → 0 < c → limit (parameters f) * c ≤ a * 2 ^ prec f → round f false a c ≡ inf false
-over-limit f a c C h = top (round f false a c) (subst (λ (z : Float). T (le z (round f false a c))) (at-limit f) (round-mono f (limit (parameters f)) (2 ^ prec f) a c (pow-pos (prec f)) C h))
+over-limit f a c C h = top (round f false a c) (rw (at-limit f) at (round-mono f (limit (parameters f)) (2 ^ prec f) a c (pow-pos (prec f)) C h))
 
 over-signed : (f : Format) (s : Bool) (a c : ℕ) → 0 < c → limit (parameters f) * c ≤ a * 2 ^ prec f → round f s a c ≡ inf s
 over-signed f false a c C h = over-limit f a c C h

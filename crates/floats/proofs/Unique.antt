@@ -1,4 +1,5 @@
--- The definitions of `Rounding` and `Operations` leave no choice: two results that fit the format and meet one are the same float, and so it is the library's. For both formats. Assumes nothing.
+-- The definitions of `Rounding` and `Operations` leave no choice: two results that fit the format and meet one are the same float, and so it is the library's.
+-- For both formats. Assumes nothing.
 use mathlib.Core.Path.{_≡_, refl, sym, ap, _∙_, subst, subst₂}
 use mathlib.Core.Logic.{_⊎_, inl, inr}
 use Prim.Native.Nat.{ℕ, zero, suc, _+_, _-_, _*_, _%_, _^_, _≤_, _<_, zero-le}
@@ -34,12 +35,13 @@ odd-even C t e h = omega arith
 odd-even' : (C D : ℕ) → C % 2 ≡ 0 → D % 2 ≡ 0 → suc C ≡ D → ⊥
 odd-even' C D e f h = omega arith
 
--- h is half of the least number of more than p digits
-too-many : (h w t D : ℕ) → h ≤ w → suc w * (t * 2) ≡ D → 0 < t → D < h * 2 → ⊥
-too-many h w t D g e T' l = not-le-of-lt l (le-trans (twice h w g) (le-trans (le-of-eq (mul-comm 2 (suc w))) (le-trans (mul-le (suc w) 2 (t * 2) (more t T')) (le-of-eq e))))
+-- P is the least number of more than p digits, and h half of it
+too-many : (P h w t D : ℕ) → P ≡ h * 2 → h ≤ w → suc w * (t * 2) ≡ D → 0 < t → D < P → ⊥
+too-many P h w t D p g e T' l =
+    not-le-of-lt l (le-trans (twice P h w p g) (le-trans (le-of-eq (mul-comm 2 (suc w))) (le-trans (mul-le (suc w) 2 (t * 2) (more t T')) (le-of-eq e))))
   where
-    twice : (h w : ℕ) → h ≤ w → h * 2 ≤ 2 * suc w
-    twice h w g = omega arith
+    twice : (P h w : ℕ) → P ≡ h * 2 → h ≤ w → P ≤ 2 * suc w
+    twice P h w p g = omega arith
 
     more : (t : ℕ) → 0 < t → 2 ≤ t * 2
     more t h = omega arith
@@ -66,7 +68,10 @@ next-odd f n m e h e' =
             | inl z ↦ odd-even' C D (e .even) (e' .even) (eq-of-mul-eq-mul-right (2 ^ q) (pow-pos q) (suc C) D (k ∙ ap (λ (i : ℕ). D * 2 ^ i) z))
             | inr g ↦
                 elim (e .full) [
-                  | inl w ↦ too-many (2 ^ (prec f - 1)) C (2 ^ (q - suc p)) D w (sym (mul-assoc (suc C) (2 ^ (q - suc p)) 2) ∙ eq-of-mul-eq-mul-right (2 ^ p) (pow-pos p) (suc C * 2 ^ (q - suc p) * 2) D (sym (evens (suc C) q p g) ∙ k)) (pow-pos (q - suc p)) (subst (λ (i : ℕ). D < i) (doubled f) (e' .short))
+                  | inl w ↦
+                      let t = 2 ^ (q - suc p) in
+                      let x : suc C * t * 2 ≡ D = eq-of-mul-eq-mul-right (2 ^ p) (pow-pos p) (suc C * t * 2) D (sym (evens (suc C) q p g) ∙ k) in
+                      too-many (2 ^ prec f) (2 ^ (prec f - 1)) C t D (doubled f) w (sym (mul-assoc (suc C) t 2) ∙ x) (pow-pos (q - suc p)) (e' .short)
                   | inr z ↦ not-le-of-lt g (subst (λ (i : ℕ). i ≤ p) (sym z) zero-le)
                 ]
           ]
@@ -78,7 +83,10 @@ module _ (f : Format) (n m : ℕ) (e : Even (parameters f) n) (d : Datum (parame
   S = suc (e .digits) * 2 ^ e .power
 
   up-to : S ≤ m
-  up-to = elim (e .full) [ inl g ↦ apart-from (apart (prec f) (two-le-pos (prec f) (two f)) (d' .digits) (d' .power) (e .digits) (e .power) (d' .short) g) | inr z ↦ units z ]
+  up-to = elim (e .full) [
+    | inl g ↦ apart-from (apart (prec f) (two-le-pos (prec f) (two f)) (d' .digits) (d' .power) (e .digits) (e .power) (d' .short) g)
+    | inr z ↦ units z
+  ]
     where
       apart-from : (d' .digits * 2 ^ d' .power ≤ e .digits * 2 ^ e .power) ⊎ (S ≤ d' .digits * 2 ^ d' .power) → S ≤ m
       apart-from (inl h) = absurd (not-le-of-lt l (le-trans (le-of-eq (d' .is)) (le-trans h (le-of-eq (sym (e .is))))))
@@ -91,16 +99,19 @@ module _ (f : Format) (n m : ℕ) (e : Even (parameters f) n) (d : Datum (parame
           le-trans (le-of-eq x) (subst (λ (i : ℕ). suc i ≤ m) y l)
 
   S-datum : Datum (parameters f) S
-  S-datum = record { digits = suc (e .digits); power = e .power; short = subst (λ (z : ℕ). suc (e .digits) < z) (sym (doubled f)) (room (2 ^ (prec f - 1)) (e .digits) (subst (λ (z : ℕ). e .digits < z) (doubled f) (e .short)) (e .even)); low = few (e .full); is = refl }
+  S-datum =
+      let short = room (2 ^ prec f) (2 ^ (prec f - 1)) (e .digits) (doubled f) (e .short) (e .even) in
+      record { digits = suc (e .digits); power = e .power; short = short; low = few (e .full); is = refl }
     where
-      room : (h C : ℕ) → C < h * 2 → C % 2 ≡ 0 → suc C < h * 2
-      room h C l k = omega arith
+      room : (P h C : ℕ) → P ≡ h * 2 → C < P → C % 2 ≡ 0 → suc C < P
+      room P h C p l k = omega arith
 
       few : (2 ^ (prec f - 1) ≤ e .digits) ⊎ (e .power ≡ 0) → e .power ≤ span (parameters f)
       few (inl g) =
           let p = prec f in
-          small (e .power) (d .power) (d .low)
-          (power-lt (p - 1 + e .power) (p + d .power) (lt-of-le-of-lt (le-trans (le-of-eq (pow-add 2 (p - 1) (e .power))) (le-trans (mul-le-mul-right (2 ^ e .power) g) (le-of-eq (sym (e .is) ∙ d .is)))) (shl-lt p (d .power) (d .short))))
+          let up : 2 ^ (p - 1 + e .power) ≤ n = rw (pow-add 2 (p - 1) (e .power), e .is) (mul-le-mul-right (2 ^ e .power) g) in
+          let down : n < 2 ^ (p + d .power) = lt-of-le-of-lt (le-of-eq (d .is)) (shl-lt p (d .power) (d .short)) in
+          small (e .power) (d .power) (d .low) (power-lt (p - 1 + e .power) (p + d .power) (lt-of-le-of-lt up down))
         where
           small : (q i : ℕ) → i ≤ span (parameters f) → prec f - 1 + q < prec f + i → q ≤ span (parameters f)
           small q i h k = omega (arith, two f)
@@ -114,11 +125,15 @@ module _ (f : Format) (a c : ℕ) (C : 0 < c) where
   abbrev b : Binary
   b = parameters f
 
-  none-less : (n m : ℕ) → Datum b n → Datum b m → Even b n → Even b m → ((k : ℕ) → Datum b k → far b a c n ≤ far b a c k) → far b a c n ≡ far b a c m → n < m → ⊥
+  none-less : (n m : ℕ) → Datum b n → Datum b m → Even b n → Even b m
+      → ((k : ℕ) → Datum b k → far b a c n ≤ far b a c k) → far b a c n ≡ far b a c m → n < m → ⊥
   none-less n m d d' e e' near same l =
       elim (eq-or-lt-of-le (up-to f n m e d d' l)) [
         | inl z ↦ next-odd f n m e z e'
-        | inr g ↦ middle (a * 2 ^ low f) (n * c) (S f n m e d d' l * c) (m * c) same (near (S f n m e d d' l) (S-datum f n m e d d' l)) (mul-lt-mul-of-pos-right (after n m e) C) (mul-lt-mul-of-pos-right g C)
+        | inr g ↦
+            let s = S f n m e d d' l in
+            let up = mul-lt-mul-of-pos-right (after n m e) C in
+            middle (a * 2 ^ low f) (n * c) (s * c) (m * c) same (near s (S-datum f n m e d d' l)) up (mul-lt-mul-of-pos-right g C)
       ]
     where
       after : (n m : ℕ) (e : Even b n) → n < suc (e .digits) * 2 ^ e .power
@@ -149,7 +164,8 @@ sum-unique : (s : Bool) (a : ℕ) (t : Bool) (b : ℕ) (u : Bool) (n : ℕ) (v :
 sum-unique s a t b u n v m h k =
     go (positive s a + positive t b) (negative s a + negative t b) (s && t) u v (h .exact) (k .exact) (h .zero) (k .zero)
   where
-    go : (P N : ℕ) (w u v : Bool) → P + negative u n ≡ N + positive u n → P + negative v m ≡ N + positive v m → (n ≡ 0 → u ≡ w) → (m ≡ 0 → v ≡ w) → (u ≡ v) × (n ≡ m)
+    go : (P N : ℕ) (w u v : Bool) → P + negative u n ≡ N + positive u n → P + negative v m ≡ N + positive v m
+        → (n ≡ 0 → u ≡ w) → (m ≡ 0 → v ≡ w) → (u ≡ v) × (n ≡ m)
     go P N w true true p q i j = (refl, omega arith)
     go P N w true false p q i j = (i (omega arith) ∙ sym (j (omega arith)), omega arith)
     go P N w false true p q i j = (i (omega arith) ∙ sym (j (omega arith)), omega arith)
@@ -167,7 +183,9 @@ module _ (f : Format) where
   ]
     where
       near : Nearest (parameters f) s a c r → Nearest (parameters f) s a c r' → r ≡ r'
-      near N M = value→same f s (N .n) (2 ^ low f) r r' (pow-pos (low f)) i j (N .value) (subst (λ (n : ℕ). HasValue r' s n (2 ^ low f)) (sym (nearest-unique f a c C s r r' N M)) (M .value))
+      near N M =
+          let v : HasValue r' s (N .n) (2 ^ low f) = rw (nearest-unique f a c C s r r' N M) (M .value) in
+          value→same f s (N .n) (2 ^ low f) r r' (pow-pos (low f)) i j (N .value) v
 
   pub adds-unique : (x y r r' : Float) → Fits r → Fits r' → Adds (parameters f) x y r → Adds (parameters f) x y r' → r ≡ r'
   adds-unique nan y r r' i j h k = h ∙ sym k
@@ -182,7 +200,8 @@ module _ (f : Format) where
   adds-unique (fin s m e) (fin t n d) r r' i j h k =
       let c = down e * down d in
       let q = sum-unique s (m * up e * down d) t (n * up d * down e) (h .0) (h .1) (k .0) (k .1) (h .2) (k .2) in
-      rounds-unique (k .0) (k .1) c r r' (mul-pos (down-pos e) (down-pos d)) i j (subst₂ (λ (u : Bool) (n : ℕ). Rounds (parameters f) u n c r) (q .0) (q .1) (h .3)) (k .3)
+      let h' = subst₂ (λ (u : Bool) (n : ℕ). Rounds (parameters f) u n c r) (q .0) (q .1) (h .3) in
+      rounds-unique (k .0) (k .1) c r r' (mul-pos (down-pos e) (down-pos d)) i j h' (k .3)
 
   pub subtracts-unique : (x y r r' : Float) → Fits r → Fits r' → Subtracts (parameters f) x y r → Subtracts (parameters f) x y r' → r ≡ r'
   subtracts-unique x y r r' i j h k = adds-unique x (opposite y) r r' i j h k
@@ -196,7 +215,8 @@ module _ (f : Format) where
   multiplies-unique (fin s m e) nan r r' i j h k = h ∙ sym k
   multiplies-unique (fin s zero e) (inf t) r r' i j h k = h ∙ sym k
   multiplies-unique (fin s (suc m) e) (inf t) r r' i j h k = h ∙ sym k
-  multiplies-unique (fin s m e) (fin t n d) r r' i j h k = rounds-unique (unlike s t) (m * up e * (n * up d)) (down e * down d) r r' (mul-pos (down-pos e) (down-pos d)) i j h k
+  multiplies-unique (fin s m e) (fin t n d) r r' i j h k =
+      rounds-unique (unlike s t) (m * up e * (n * up d)) (down e * down d) r r' (mul-pos (down-pos e) (down-pos d)) i j h k
 
   pub divides-unique : (x y r r' : Float) → Fits r → Fits r' → Divides (parameters f) x y r → Divides (parameters f) x y r' → r ≡ r'
   divides-unique nan y r r' i j h k = h ∙ sym k

@@ -50,7 +50,8 @@ Multiplies b (fin s zero e) (inf t) r = r ≡ nan
 Multiplies b (fin s (suc m) e) (inf t) r = r ≡ inf (unlike s t)
 Multiplies b (fin s m e) (fin t n d) r = Rounds b (unlike s t) (m * up e * (n * up d)) (down e * down d) r
 
--- 5.4.1 division: r is x / y, with the sign of 6.3. 6.1: by an infinity it is a zero; 7.3: by a zero an infinity; 7.2 e: 0 / 0 and infinity / infinity have no quotient
+-- 5.4.1 division: r is x / y, with the sign of 6.3. 6.1: by an infinity it is a zero; 7.3: by a zero an infinity;
+-- 7.2 e: 0 / 0 and infinity / infinity have no quotient
 abbrev pub Divides : Binary → Float → Float → Float → Type 0
 Divides b nan y r = r ≡ nan
 Divides b (inf s) nan r = r ≡ nan

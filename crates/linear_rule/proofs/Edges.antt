@@ -42,7 +42,9 @@ module _ (s : Bool) (m : ℕ) (e : ℤ) (n : ℕ) (d : ℤ) (t : T (fits binary3
   positive = mul-pos (down-pos e) (down-pos d)
 
   rounded : round binary32 s a c ≡ fin s m e
-  rounded = round-same binary32 s a c (m * up e) (down e) positive (down-pos e) (mul-right-comm (m * up e) (down d) (down e) ∙ mul-assoc (m * up e) (down e) (down d)) ∙ round-own binary32 s m e t
+  rounded =
+      let same = mul-right-comm (m * up e) (down d) (down e) ∙ mul-assoc (m * up e) (down e) (down d) in
+      round-same binary32 s a c (m * up e) (down e) positive (down-pos e) same ∙ round-own binary32 s m e t
 
   above : T (le (fin s m e) (add binary32 (fin s m e) (fin false n d)))
   above =
