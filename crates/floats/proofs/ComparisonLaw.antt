@@ -1,6 +1,6 @@
 -- The library's comparisons meet the definitions of `Comparison` on every operand. Assumes nothing.
 use mathlib.Core.Path.{_≡_, refl, subst}
-use mathlib.Core.Logic.{_↔_, inl, inr}
+use mathlib.Core.Logic.{_↔_, _⊎_, inl, inr}
 use Prim.Native.Nat.{ℕ, _+_, _*_, _<_}
 use native.Mathlib.Omega.{arith}
 use mathlib.Core.Bool.{Bool, true, false, not, _||_, Bool·beq}
@@ -8,8 +8,8 @@ use lib.Dec.{T, T-not, eqb, ltb→lt, lt→ltb, eqb→eq}
 use lib.Ieee.{Float, nan, inf, fin, up, down, lt, le, eq, ne, isNan, level, below}
 use lib.Ieee.Fits.{and-i, and-l, and-r, eq→eqb}
 use Rattle.floats.specs.Signed.{positive, negative}
-use Rattle.floats.specs.Comparison.{Less, Same, AtMost, Differs}
-use Rattle.floats.proofs.Order.{or-split, or-l, or-r, total, eq-l, eq-r, eq-sym, eq→le, lt-not-le}
+use Rattle.floats.specs.Comparison.{Less, Same, AtMost, Unordered, Differs}
+use Rattle.floats.proofs.Order.{or-split, or-l, or-r, total, lt-l, lt-r, eq-l, eq-r, eq-sym, eq→le, lt→le, lt-not-le}
 
 -- ---- less
 below→ : (s : Bool) (a : ℕ) (t : Bool) (b : ℕ) → T (below s a t b) → positive s a + negative t b < positive t b + negative s a
@@ -124,3 +124,23 @@ back x y (inr (inr (inr n))) e = subst (λ (z : Float). T (not (isNan z))) n (eq
 pub ne-meets : (x y : Float) → T (ne x y) ↔ Differs x y
 unfolding ne
 ne-meets x y = (there x y, λ (d : Differs x y). refuted (eq x y) (back x y d))
+
+-- ---- 5.11: of less, equal, greater and unordered one holds, and no two
+module _ (x y : Float) where
+  pub some-relation : Same x y ⊎ Less x y ⊎ Less y x ⊎ Unordered x y
+  some-relation = go (eq x y) (eq-meets x y .0) (there x y)
+    where
+      go : (b : Bool) → (T b → Same x y) → (T (not b) → Differs x y) → Same x y ⊎ Less x y ⊎ Less y x ⊎ Unordered x y
+      go true p q = inl (p tt)
+      go false p q = inr (q tt)
+
+  pub same-alone : Same x y → Less x y ⊎ Less y x ⊎ Unordered x y → ⊥
+  same-alone h d = back x y d (eq-meets x y .1 h)
+
+  pub less-not-greater : Less x y → Less y x → ⊥
+  less-not-greater h k = lt-not-le x y (lt-meets x y .1 h) (lt→le y x (lt-meets y x .1 k))
+
+  pub less-not-unordered : Less x y → Unordered x y → ⊥
+  unfolding isNan
+  less-not-unordered h (inl n) = subst (λ (z : Float). T (not (isNan z))) n (lt-l x y (lt-meets x y .1 h))
+  less-not-unordered h (inr n) = subst (λ (z : Float). T (not (isNan z))) n (lt-r x y (lt-meets x y .1 h))

@@ -10,6 +10,7 @@ pub mod Same
 pub mod Neighbours
 pub mod Representable
 pub mod RoundingLaw
+pub mod Data
 pub mod OperationsLaw
 pub mod Unique
 pub mod ConversionsLaw
