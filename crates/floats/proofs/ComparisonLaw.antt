@@ -1,15 +1,15 @@
 -- The library's comparisons meet the definitions of `Comparison` on every operand. Assumes nothing.
 use mathlib.Core.Path.{_≡_, refl, subst}
-use mathlib.Core.Logic.{_↔_, inl, inr}
+use mathlib.Core.Logic.{_↔_, _⊎_, inl, inr}
 use Prim.Native.Nat.{ℕ, _+_, _*_, _<_}
 use native.Mathlib.Omega.{arith}
-use mathlib.Core.Bool.{Bool, true, false, _||_, Bool·beq}
-use lib.Dec.{T, eqb, ltb→lt, lt→ltb, eqb→eq}
-use lib.Ieee.{Float, nan, inf, fin, up, down, lt, le, eq, level, below}
+use mathlib.Core.Bool.{Bool, true, false, not, _||_, Bool·beq}
+use lib.Dec.{T, T-not, eqb, ltb→lt, lt→ltb, eqb→eq}
+use lib.Ieee.{Float, nan, inf, fin, up, down, lt, le, eq, ne, isNan, level, below}
 use lib.Ieee.Fits.{and-i, and-l, and-r, eq→eqb}
 use Rattle.floats.specs.Signed.{positive, negative}
-use Rattle.floats.specs.Comparison.{Less, Same, AtMost}
-use Rattle.floats.proofs.Order.{or-split, or-l, or-r}
+use Rattle.floats.specs.Comparison.{Less, Same, AtMost, Unordered, Differs}
+use Rattle.floats.proofs.Order.{or-split, or-l, or-r, total, lt-l, lt-r, eq-l, eq-r, eq-sym, eq→le, lt→le, lt-not-le}
 
 -- ---- less
 below→ : (s : Bool) (a : ℕ) (t : Bool) (b : ℕ) → T (below s a t b) → positive s a + negative t b < positive t b + negative s a
@@ -87,3 +87,60 @@ le-meets x y = (there, back)
     back : AtMost x y → T (lt x y || eq x y)
     back (inl l) = or-l (lt x y) (eq x y) (lt-meets x y .1 l)
     back (inr e) = or-r (lt x y) (eq x y) (eq-meets x y .1 e)
+
+-- ---- not equal
+strict : (x y : Float) → T (le x y) → (T (eq x y) → ⊥) → T (lt x y)
+unfolding le
+strict x y l n = elim (or-split (lt x y) (eq x y) l) [ inl i ↦ i | inr e ↦ absurd (n e) ]
+
+refuted : (b : Bool) → (T b → ⊥) → T (not b)
+refuted true n = n tt
+refuted false n = tt
+
+-- of two values that are no NaN and not equal one is less
+ordered : (x y : Float) → T (not (isNan x)) → T (not (isNan y)) → T (not (eq x y)) → Differs x y
+ordered x y n m h = elim (total x y n m) [
+  | inl l ↦ inl (lt-meets x y .0 (strict x y l (T-not (eq x y) h)))
+  | inr l ↦ inr (inl (lt-meets y x .0 (strict y x l (λ (e : T (eq y x)). T-not (eq x y) h (eq-sym y x e)))))
+]
+
+there : (x y : Float) → T (not (eq x y)) → Differs x y
+unfolding isNan
+there nan y h = inr (inr (inl refl))
+there (inf s) nan h = inr (inr (inr refl))
+there (inf s) (inf t) h = ordered (inf s) (inf t) tt tt h
+there (inf s) (fin t n d) h = ordered (inf s) (fin t n d) tt tt h
+there (fin s m e) nan h = inr (inr (inr refl))
+there (fin s m e) (inf t) h = ordered (fin s m e) (inf t) tt tt h
+there (fin s m e) (fin t n d) h = ordered (fin s m e) (fin t n d) tt tt h
+
+back : (x y : Float) → Differs x y → T (eq x y) → ⊥
+unfolding isNan
+back x y (inl l) e = lt-not-le x y (lt-meets x y .1 l) (eq→le y x (eq-sym x y e))
+back x y (inr (inl l)) e = lt-not-le y x (lt-meets y x .1 l) (eq→le x y e)
+back x y (inr (inr (inl n))) e = subst (λ (z : Float). T (not (isNan z))) n (eq-l x y e)
+back x y (inr (inr (inr n))) e = subst (λ (z : Float). T (not (isNan z))) n (eq-r x y e)
+
+pub ne-meets : (x y : Float) → T (ne x y) ↔ Differs x y
+unfolding ne
+ne-meets x y = (there x y, λ (d : Differs x y). refuted (eq x y) (back x y d))
+
+-- ---- 5.11: of less, equal, greater and unordered one holds, and no two
+module _ (x y : Float) where
+  pub some-relation : Same x y ⊎ Less x y ⊎ Less y x ⊎ Unordered x y
+  some-relation = go (eq x y) (eq-meets x y .0) (there x y)
+    where
+      go : (b : Bool) → (T b → Same x y) → (T (not b) → Differs x y) → Same x y ⊎ Less x y ⊎ Less y x ⊎ Unordered x y
+      go true p q = inl (p tt)
+      go false p q = inr (q tt)
+
+  pub same-alone : Same x y → Less x y ⊎ Less y x ⊎ Unordered x y → ⊥
+  same-alone h d = back x y d (eq-meets x y .1 h)
+
+  pub less-not-greater : Less x y → Less y x → ⊥
+  less-not-greater h k = lt-not-le x y (lt-meets x y .1 h) (lt→le y x (lt-meets y x .1 k))
+
+  pub less-not-unordered : Less x y → Unordered x y → ⊥
+  unfolding isNan
+  less-not-unordered h (inl n) = subst (λ (z : Float). T (not (isNan z))) n (lt-l x y (lt-meets x y .1 h))
+  less-not-unordered h (inr n) = subst (λ (z : Float). T (not (isNan z))) n (lt-r x y (lt-meets x y .1 h))

@@ -1,5 +1,6 @@
--- The comparisons of binary32 on every operand, written from IEEE 754-2019, 5.11 and tables 5.1 to 5.3: by the exact values, an infinity beyond every finite one (6.1),
--- -0 equal to +0, infinities of one sign equal. Where a NaN stands the operands are unordered, and all three are false. Definitions only.
+-- The comparisons of two floats of any format, written from IEEE 754-2019, 5.11 and tables 5.1 to 5.3: by the exact values, an infinity beyond every
+-- finite one (6.1), -0 equal to +0, infinities of one sign equal. Where a NaN stands the operands are unordered: then `Differs` is true, and the others
+-- are false. Definitions only.
 use mathlib.Core.Path.{_≡_}
 use mathlib.Core.Logic.{_⊎_}
 use Prim.Native.Nat.{_+_, _*_, _<_}
@@ -34,3 +35,11 @@ Same (fin s m e) (fin t n d) = positive s (m * up e * down d) + negative t (n * 
 -- x ≤ y: less or equal
 abbrev pub AtMost : Float → Float → Type 0
 AtMost x y = Less x y ⊎ Same x y
+
+-- 5.11: at least one operand is a NaN
+abbrev pub Unordered : Float → Float → Type 0
+Unordered x y = (x ≡ nan) ⊎ (y ≡ nan)
+
+-- x ≠ y, table 5.1: compareQuietNotEqual is true of less, greater and unordered
+abbrev pub Differs : Float → Float → Type 0
+Differs x y = Less x y ⊎ Less y x ⊎ Unordered x y

@@ -1,41 +1,21 @@
 -- E moves an edge that is an f32 no other way than out: start - E is not above start, nor end + E below end, in f32. Assumes nothing.
-use mathlib.Core.Path.{_≡_, refl, sym, ap, _∙_, subst}
+use mathlib.Core.Path.{_≡_, refl, _∙_}
 use mathlib.Core.Bool.{Bool, true, false, not}
-use Prim.Native.Nat.{ℕ, suc, _+_, _-_, _*_, _^_, _≤_, _<_}
-use native.Mathlib.Nat.{one-mul, mul-assoc, mul-right-comm, mul-pos}
+use Prim.Native.Nat.{ℕ, _+_, _*_, _≤_, _<_}
+use native.Mathlib.Nat.{mul-assoc, mul-right-comm, mul-pos}
 use native.Mathlib.Omega.{arith}
-use lib.IntN.{ℤ, pos, negsuc}
+use lib.IntN.{ℤ, negsuc}
 use lib.Dec.{T}
-use lib.Pow.{pow-add}
 use lib.Ieee.{Float, nan, inf, fin, binary32, up, down, round, neg, add, sub, le, isNan, fits, ofBits}
-use lib.Ieee.Exact.{round-exact}
-use lib.Ieee.Fits.{down-pos, round-fits}
+use lib.Ieee.Fits.{down-pos}
 use lib.Ieee.Scale.{round-same}
 use Rattle.floats.specs.Operations.{Sum}
-use Rattle.floats.proofs.Order.{off, depth, size-at, le-refl-float}
-use Rattle.floats.proofs.Key32.{serves32}
-use Rattle.floats.proofs.Neighbours.{fits-says}
-use Rattle.floats.proofs.Mono.{round-signed, unit-split}
-use Rattle.floats.proofs.Same.{value→same}
+use Rattle.floats.proofs.Order.{off, le-refl-float}
+use Rattle.floats.proofs.Mono.{round-signed}
+use Rattle.floats.proofs.Representable.{round-own}
 use Rattle.floats.proofs.Sums.{sums, add-is}
 use Rattle.floats.proofs.OperationsLaw.{sub-is}
 use Rattle.colormapper.specs.Tolerance.{E}
-
--- ---- an f32 is what its own value rounds to
-power : (e : ℤ) → (j : ℕ) × (2 ^ j ≡ up e * 2 ^ (149 - depth e))
-power (pos k) = (k + 149, pow-add 2 k 149)
-power (negsuc k) = (149 - suc k, sym (one-mul (2 ^ (149 - suc k))))
-
-own : (s : Bool) (m : ℕ) (e : ℤ) → T (fits binary32 (fin s m e)) → round binary32 s (m * up e) (down e) ≡ fin s m e
-own s m e t =
-    let f = fits-says s m e t in
-    let p = power e in
-    let sized : m * 2 ^ p .0 ≡ size-at 149 m e = ap (λ (z : ℕ). m * z) (p .1) ∙ sym (mul-assoc m (up e) (2 ^ (149 - depth e))) in
-    let exact : m * up e * 2 ^ 149 ≡ m * 2 ^ p .0 * down e =
-    ap (λ (z : ℕ). m * up e * z) (unit-split 149 e (f .1)) ∙ sym (mul-assoc (m * up e) (2 ^ (149 - depth e)) (down e)) ∙ ap (λ (z : ℕ). z * down e) (sym sized) in
-    let small : m * 2 ^ p .0 < 2 ^ 277 = subst (λ (z : ℕ). z < 2 ^ 277) (sym sized) (serves32 (fin s m e) t (unfold isNan in tt) .1) in
-    value→same binary32 s (m * up e) (down e) (round binary32 s (m * up e) (down e)) (fin s m e) (down-pos e) (round-fits binary32 s (m * up e) (down e)) t
-    (round-exact binary32 s (m * up e) (down e) m (p .0) (down-pos e) (f .0) small exact) (refl, refl)
 
 -- ---- ±a + b is no smaller than ±a, and ±a - b no larger
 module _ (B a b k : ℕ) where
@@ -62,7 +42,9 @@ module _ (s : Bool) (m : ℕ) (e : ℤ) (n : ℕ) (d : ℤ) (t : T (fits binary3
   positive = mul-pos (down-pos e) (down-pos d)
 
   rounded : round binary32 s a c ≡ fin s m e
-  rounded = round-same binary32 s a c (m * up e) (down e) positive (down-pos e) (mul-right-comm (m * up e) (down d) (down e) ∙ mul-assoc (m * up e) (down e) (down d)) ∙ own s m e t
+  rounded =
+      let same = mul-right-comm (m * up e) (down d) (down e) ∙ mul-assoc (m * up e) (down e) (down d) in
+      round-same binary32 s a c (m * up e) (down e) positive (down-pos e) same ∙ round-own binary32 s m e t
 
   above : T (le (fin s m e) (add binary32 (fin s m e) (fin false n d)))
   above =
@@ -91,4 +73,4 @@ end-moves-up (fin s m e) f n = rw E-is (above s m e 13_743_895 (negsuc 36) f)
 pub start-moves-down : (x : Float) → T (fits binary32 x) → T (not (isNan x)) → T (le (sub binary32 x E) x)
 start-moves-down nan f n = absurd (unfold isNan in n)
 start-moves-down (inf s) f n = unfold sub add neg ofBits in le-refl-float (inf s) n
-start-moves-down (fin s m e) f n = rw (sub-is (fin s m e) E) (unfold neg ofBits in below s m e 13_743_895 (negsuc 36) f)
+start-moves-down (fin s m e) f n = rw (sub-is binary32 (fin s m e) E) (unfold neg ofBits in below s m e 13_743_895 (negsuc 36) f)
