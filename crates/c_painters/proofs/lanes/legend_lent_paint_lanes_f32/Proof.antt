@@ -1,14 +1,13 @@
--- `legend_lent_paint_lanes_u8` meets its contract. Assumes nothing.
+-- `lanes::legend_lent_paint_lanes_f32` meets its contract. Assumes nothing.
 use mathlib.Core.Path.{ap}
-use Rattle.cast.specs.Nodata.{nodataU8}
 use Rattle.legend_head.specs.Lent.{lentLegend}
-use Rattle.c_types.specs.Samples.{nodataIfU8}
+use Rattle.c_types.specs.Samples.{nodataIf}
 use Rattle.c_settings.specs.Refusals.{useRefusal}
 use Rattle.c_painters.specs.Painting.{legendLent}
 use Rattle.c_painters.proofs.Calling.{lane-arguments, lanes-painted}
 use borrow.Author.Needs.{needs}
-use Rattle.c_painters.proofs.legend_lent_paint_lanes_u8.Statement.{statement}
-use Rattle.c_painters.proofs.legend_lent_paint_lanes_u8.Tie as tie
+use Rattle.c_painters.proofs.lanes.legend_lent_paint_lanes_f32.Statement.{statement}
+use Rattle.c_painters.proofs.lanes.legend_lent_paint_lanes_f32.Tie as tie
 
 use-refusal-requires : tie.Need-use-refusal-requires
 use-refusal-requires c κs = search needs
@@ -22,7 +21,7 @@ to-c-requires c κs = search needs
 returns : tie.Need-returns
 returns c =
     let a = c .before .before .before .before .before .before .before .args in
-    lane-arguments (useRefusal (a .head .settings) (a .head .kind) (a .nodata-given)) (legendLent (a .head) (a .banded) (a .cmap .now) (a .keys .now) (a .colors .now) (a .lookup .now)) (nodataU8 (nodataIfU8 (a .nodata-given) (a .nodata)))
+    lane-arguments (useRefusal (a .head .settings) (a .head .kind) (a .nodata-given)) (legendLent (a .head) (a .banded) (a .cmap .now) (a .keys .now) (a .colors .now) (a .lookup .now)) (nodataIf (a .nodata-given) (a .nodata))
     (c .before .before .before .use-refusal .ensures) (c .before .enum-told .given .1) (c .to-c .ensures)
 
 enum-told-2 : tie.Need-enum-told-2
@@ -31,11 +30,11 @@ enum-told-2 c = search needs
 head-given-requires : tie.Need-head-given-requires
 head-given-requires c κs = search needs
 
-nodata-if-u8-requires : tie.Need-nodata-if-u8-requires
-nodata-if-u8-requires c κs = search needs
+nodata-if-requires : tie.Need-nodata-if-requires
+nodata-if-requires c κs = search needs
 
-apply-to-data-kernel-u8-requires : tie.Need-apply-to-data-kernel-u8-requires
-apply-to-data-kernel-u8-requires c κs = search needs
+apply-to-data-kernel-requires : tie.Need-apply-to-data-kernel-requires
+apply-to-data-kernel-requires c κs = search needs
 
 to-c-requires-2 : tie.Need-to-c-requires-2
 to-c-requires-2 c κs = search needs
@@ -53,11 +52,11 @@ returns-2 c =
     let free = made .before .before in
     let start = free .before .before .before .before .before .before in
     let a = start .args in
-    lanes-painted (useRefusal (a .head .settings) (a .head .kind) (a .nodata-given)) (legendLent (a .head) (a .banded) (a .cmap .now) (a .keys .now) (a .colors .now) (a .lookup .now)) (nodataU8 (nodataIfU8 (a .nodata-given) (a .nodata))) (free .before .before .use-refusal .ensures) (free .enum-told2 .given .1)
-    (ap (λ h. lentLegend h (a .cmap .now) (a .keys .now) (a .colors .now) (a .lookup .now)) (made .before .head-given .ensures)) (ap nodataU8 (made .nodata-if-u8 .ensures)) (painted .apply-to-data-kernel-u8 .result) (c .to-c2 .ensures) (painted .apply-to-data-kernel-u8 .ensures)
+    lanes-painted (useRefusal (a .head .settings) (a .head .kind) (a .nodata-given)) (legendLent (a .head) (a .banded) (a .cmap .now) (a .keys .now) (a .colors .now) (a .lookup .now)) (nodataIf (a .nodata-given) (a .nodata)) (free .before .before .use-refusal .ensures) (free .enum-told2 .given .1)
+    (ap (λ h. lentLegend h (a .cmap .now) (a .keys .now) (a .colors .now) (a .lookup .now)) (made .before .head-given .ensures)) (made .nodata-if .ensures) (painted .apply-to-data-kernel .result) (c .to-c2 .ensures) (painted .apply-to-data-kernel .ensures)
 
-pub legend-lent-paint-lanes-u8-spec : {M : Type 1} → statement M
-legend-lent-paint-lanes-u8-spec =
+pub legend-lent-paint-lanes-f32-spec : {M : Type 1} → statement M
+legend-lent-paint-lanes-f32-spec =
     tie.close
     (tie.spec
     use-refusal-requires
@@ -66,8 +65,8 @@ legend-lent-paint-lanes-u8-spec =
     returns
     enum-told-2
     head-given-requires
-    nodata-if-u8-requires
-    apply-to-data-kernel-u8-requires
+    nodata-if-requires
+    apply-to-data-kernel-requires
     to-c-requires-2
     same-length
     same-length-2

@@ -1,4 +1,4 @@
--- `legend_lent_paint_u8` meets its contract. Assumes nothing.
+-- `plain::legend_lent_paint_u8` meets its contract. Assumes nothing.
 use mathlib.Core.Path.{ap}
 use Rattle.cast.specs.Nodata.{nodataU8}
 use Rattle.legend_head.specs.Lent.{lentLegend}
@@ -7,8 +7,8 @@ use Rattle.c_settings.specs.Refusals.{useRefusal}
 use Rattle.c_painters.specs.Painting.{legendLent}
 use Rattle.c_painters.proofs.Calling.{plain-arguments, plain-painted}
 use borrow.Author.Needs.{needs}
-use Rattle.c_painters.proofs.legend_lent_paint_u8.Statement.{statement}
-use Rattle.c_painters.proofs.legend_lent_paint_u8.Tie as tie
+use Rattle.c_painters.proofs.plain.legend_lent_paint_u8.Statement.{statement}
+use Rattle.c_painters.proofs.plain.legend_lent_paint_u8.Tie as tie
 
 use-refusal-requires : tie.Need-use-refusal-requires
 use-refusal-requires c κs = search needs

@@ -1,4 +1,4 @@
--- `legend_lent_paint_lanes_i16` meets its contract. Assumes nothing.
+-- `lanes::legend_lent_paint_lanes_i16` meets its contract. Assumes nothing.
 use mathlib.Core.Path.{ap, _∙_}
 use mir.Syntax.{w16}
 use mir.Facts.{toZ-ofZ}
@@ -9,8 +9,8 @@ use Rattle.c_settings.specs.Refusals.{useRefusal}
 use Rattle.c_painters.specs.Painting.{legendLent}
 use Rattle.c_painters.proofs.Calling.{lane-arguments, lanes-painted}
 use borrow.Author.Needs.{needs}
-use Rattle.c_painters.proofs.legend_lent_paint_lanes_i16.Statement.{statement}
-use Rattle.c_painters.proofs.legend_lent_paint_lanes_i16.Tie as tie
+use Rattle.c_painters.proofs.lanes.legend_lent_paint_lanes_i16.Statement.{statement}
+use Rattle.c_painters.proofs.lanes.legend_lent_paint_lanes_i16.Tie as tie
 
 use-refusal-requires : tie.Need-use-refusal-requires
 use-refusal-requires c κs = search needs

@@ -1,4 +1,4 @@
--- `legend_lent_paint_f32` meets its contract. Assumes nothing.
+-- `plain::legend_lent_paint_f32` meets its contract. Assumes nothing.
 use mathlib.Core.Path.{ap}
 use Rattle.legend_head.specs.Lent.{lentLegend}
 use Rattle.c_types.specs.Samples.{nodataIf}
@@ -6,8 +6,8 @@ use Rattle.c_settings.specs.Refusals.{useRefusal}
 use Rattle.c_painters.specs.Painting.{legendLent}
 use Rattle.c_painters.proofs.Calling.{plain-arguments, plain-painted}
 use borrow.Author.Needs.{needs}
-use Rattle.c_painters.proofs.legend_lent_paint_f32.Statement.{statement}
-use Rattle.c_painters.proofs.legend_lent_paint_f32.Tie as tie
+use Rattle.c_painters.proofs.plain.legend_lent_paint_f32.Statement.{statement}
+use Rattle.c_painters.proofs.plain.legend_lent_paint_f32.Tie as tie
 
 use-refusal-requires : tie.Need-use-refusal-requires
 use-refusal-requires c κs = search needs

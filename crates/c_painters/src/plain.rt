@@ -1,0 +1,107 @@
+// Plain painting.
+use banded::Banded;
+use c_records::head;
+use c_records::head::LegendHead;
+use c_settings::refusals;
+use c_types::answer;
+use c_types::answer::LegendAnswer;
+use c_types::samples;
+use refusal::Answer;
+ghost use mathlib.Core.List.{map};
+ghost use Rattle.cast.specs.Samples.{ofU8, ofI16};
+ghost use Rattle.cast.specs.Nodata.{nodataU8, nodataI16};
+ghost use Rattle.c_types.specs.Samples.{nodataIf, nodataIfU8, nodataIfI16};
+ghost use Rattle.c_painters.specs.Painting.{painterLent, PlainOutcome};
+
+#[no_mangle]
+pub extern "C" fn legend_lent_paint_f32(
+    head: LegendHead,
+    banded: Banded,
+    cmap: &[u32; 256],
+    keys: &[i64; 256],
+    colors: &[u32; 256],
+    lookup: &[u32; 513],
+    src: &[f32],
+    nodata_given: u32,
+    nodata: f32,
+    out: &mut [u32],
+) -> LegendAnswer
+    ensures { λ r. ⌜ PlainOutcome (painterLent head banded (now (cmap .entry)) (now (keys .entry)) (now (colors .entry)) (now (lookup .entry)) «nodata_given» (nodataIf «nodata_given» nodata)) (now (src .entry)) (now (out .entry)) r (now (out .exit)) ⌝ }
+{
+    let first = refusals::use_refusal(head.settings, head.kind, nodata_given);
+    if let Answer::Refused(_) = first {
+        return answer::to_c(first);
+    }
+    answer::to_c(apply_scalar::apply_to_data_scalar(
+        head::head_given(head, banded),
+        cmap,
+        keys,
+        colors,
+        lookup,
+        src,
+        samples::nodata_if(nodata_given, nodata),
+        out,
+    ))
+}
+
+#[no_mangle]
+pub extern "C" fn legend_lent_paint_u8(
+    head: LegendHead,
+    banded: Banded,
+    cmap: &[u32; 256],
+    keys: &[i64; 256],
+    colors: &[u32; 256],
+    lookup: &[u32; 513],
+    src: &[u8],
+    nodata_given: u32,
+    nodata: u8,
+    out: &mut [u32],
+) -> LegendAnswer
+    ensures { λ r. ⌜ PlainOutcome (painterLent head banded (now (cmap .entry)) (now (keys .entry)) (now (colors .entry)) (now (lookup .entry)) «nodata_given» (nodataU8 (nodataIfU8 «nodata_given» nodata))) (map ofU8 (now (src .entry))) (now (out .entry)) r (now (out .exit)) ⌝ }
+{
+    let first = refusals::use_refusal(head.settings, head.kind, nodata_given);
+    if let Answer::Refused(_) = first {
+        return answer::to_c(first);
+    }
+    answer::to_c(apply_scalar::apply_to_data_scalar_u8(
+        head::head_given(head, banded),
+        cmap,
+        keys,
+        colors,
+        lookup,
+        src,
+        samples::nodata_if_u8(nodata_given, nodata),
+        out,
+    ))
+}
+
+#[no_mangle]
+pub extern "C" fn legend_lent_paint_i16(
+    head: LegendHead,
+    banded: Banded,
+    cmap: &[u32; 256],
+    keys: &[i64; 256],
+    colors: &[u32; 256],
+    lookup: &[u32; 513],
+    src: &[i16],
+    nodata_given: u32,
+    nodata: i16,
+    out: &mut [u32],
+) -> LegendAnswer
+    ensures { λ r. ⌜ PlainOutcome (painterLent head banded (now (cmap .entry)) (now (keys .entry)) (now (colors .entry)) (now (lookup .entry)) «nodata_given» (nodataI16 (nodataIfI16 «nodata_given» nodata))) (map ofI16 (now (src .entry))) (now (out .entry)) r (now (out .exit)) ⌝ }
+{
+    let first = refusals::use_refusal(head.settings, head.kind, nodata_given);
+    if let Answer::Refused(_) = first {
+        return answer::to_c(first);
+    }
+    answer::to_c(apply_scalar::apply_to_data_scalar_i16(
+        head::head_given(head, banded),
+        cmap,
+        keys,
+        colors,
+        lookup,
+        src,
+        samples::nodata_if_i16(nodata_given, nodata),
+        out,
+    ))
+}
