@@ -7,7 +7,7 @@ use native.Mathlib.Nat.{le-antisymm}
 use native.Mathlib.Numerals.{add-one}
 use native.Mathlib.Omega.{arith}
 use lib.ListN.{length, getD, take, drop, set, replicate, length-append, length-drop, length-replicate, getD-replicate, List·getD-append, List·getD-eq-default}
-use lib.Seq.{set-at, take-append-seam, getD-append-add, length-take-le}
+use lib.Seq.{set-at, take-append-seam, getD-append-add, length-take-le, getD-take, getD-drop}
 use Rattle.lists.proofs.Numbers.{lt-or-le}
 use Rattle.lists.specs.Tabulate.{tabulate}
 use Rattle.lists.specs.Padded.{padded}
@@ -104,3 +104,11 @@ module _ {A : Type 0} {z : A} {f : ℕ → A} {n l : ℕ} where
 
   pub storing-end : {i : ℕ} {r : List A} → Storing z f n l i r → l ≤ i → r ≡ padded z n (tabulate l f)
   storing-end s h = s .is ∙ ap (λ (i : ℕ). padded z n (tabulate i f)) (le-antisymm (s .upto) h)
+
+-- a loop that stores a part of a list
+pub storing-part : {A : Type 0} {z : A} {n l i : ℕ} {r : List A} (y : A) (xs : List A) (base : ℕ) → Storing z (λ k. getD xs (base + k) y) n l i r → l ≤ i → base + l ≤ length xs
+    → r ≡ padded z n (take l (drop base xs))
+storing-part {A} {z} {n} {l} y xs base s h g =
+    storing-end s h
+    ∙ ap (padded z n)
+    (sym (tabulated y l (λ k. getD xs (base + k) y) (take l (drop base xs)) (length-take-le l (drop base xs) (omega (arith, length-drop base xs))) (λ k q. getD-take l (drop base xs) k y q ∙ getD-drop base xs k y)))
