@@ -1,1 +1,2 @@
 pub mod Excluding
+pub mod MaskedLanes
