@@ -29,8 +29,8 @@ module _ {A : Type 0} {z : A} {l : ℕ} {f : ℕ → A} {r : List A} where
   lanes-take e = ap (take l) (e .is) ∙ ap (λ (m : ℕ). take m (padded z 16 (tabulate l f))) (sym (length-tabulate l f)) ∙ take-padded z 16 (tabulate l f)
 
   -- the first l as a list, from which the array is known
-  pub lanes-list : LanesOf z l f r → {xs : List A} → take l r ≡ xs → r ≡ padded z 16 xs
-  lanes-list e h = e .is ∙ ap (padded z 16) (sym (lanes-take e) ∙ h)
+  pub lanes-padded : LanesOf z l f r → {xs : List A} → take l r ≡ xs → r ≡ padded z 16 xs
+  lanes-padded e h = e .is ∙ ap (padded z 16) (sym (lanes-take e) ∙ h)
 
   -- what a loop leaves that stores f k in lane k of an array of z, for each k below l
   pub lanes-stored : {i : ℕ} → Storing z f 16 l i r → l ≤ i → LanesOf z l f r
@@ -39,6 +39,10 @@ module _ {A : Type 0} {z : A} {l : ℕ} {f : ℕ → A} {r : List A} where
   -- by another rule that agrees below l
   pub lanes-agree : {g : ℕ → A} → LanesOf z l f r → ((k : ℕ) → k < l → f k ≡ g k) → LanesOf z l g r
   lanes-agree {g} e h = record { is = e .is ∙ ap (padded z 16) (tabulated z l g (tabulate l f) (length-tabulate l f) (λ k q. getD-tabulate l f k z q ∙ h k q)) }
+
+-- by what the lanes hold
+pub lanes-own : {A : Type 0} {z : A} {l : ℕ} {f : ℕ → A} {r : List A} → LanesOf z l f r → (y : A) → LanesOf z l (λ k. getD r k y) r
+lanes-own e y = lanes-agree e (λ k h. sym (lane-at e y k h))
 
 -- all sixteen lanes, from what each holds
 pub lanes-all : {A : Type 0} (z y : A) {f : ℕ → A} {r : List A} → length r ≡ 16 → Lanes y 16 r f → LanesOf z 16 f r
