@@ -93,7 +93,8 @@ unfolding tabulate
 all-inside zero f = unfold allBelow in refl
 all-inside (suc n) f = ap (λ (b : Bool). f 0 .inside && b) (all-inside n (λ k. f (suc k))) ∙ below-first n (λ k. f k .inside)
 
-shown : (n : ℕ) (value : List Float) (inside : List Bool) (color : List ℕ) → LanesOf 0 n (λ k. getD color k 0) color → color ≡ padded 0 16 (map (λ (l : Lane). l .color) (lanesOf n value inside color))
+shown : (n : ℕ) (value : List Float) (inside : List Bool) (color : List ℕ) → LanesOf 0 n (λ k. getD color k 0) color
+    → color ≡ padded 0 16 (map (λ (l : Lane). l .color) (lanesOf n value inside color))
 shown n value inside color e = e .is ∙ ap (padded 0 16) (sym (map-rule (λ (l : Lane). l .color) n (laneAt value inside color)))
 
 -- a band over one lane
@@ -143,7 +144,8 @@ module _ (starts ends : List Float) (colors : List ℕ) (count : ℕ) (nodata n 
 
   -- band i over the lanes
   module _ {i : ℕ} {inside : List Bool} {color : List ℕ} (inside' : List Bool) (color' : List ℕ) {b : LegendBand} {all : Bool} (s : Scanning i inside color) (h : i < count) (e : b ≡ f i)
-      (p : LanesOf 0 n (λ k. cond (holds b (getD value k nan)) (b .color) (getD color k 0)) color') (q : LanesOf false n (λ k. getD inside k false || holds b (getD value k nan)) inside')
+      (p : LanesOf 0 n (λ k. cond (holds b (getD value k nan)) (b .color) (getD color k 0)) color')
+      (q : LanesOf false n (λ k. getD inside k false || holds b (getD value k nan)) inside')
       (a : all ≡ allBelow n (λ k. getD inside k false || holds b (getD value k nan))) where
     abbrev next : List Lane
     next = lanesOf n value inside' color'
@@ -152,10 +154,13 @@ module _ (starts ends : List Float) (colors : List ℕ) (count : ℕ) (nodata n 
     overs =
         map-rule (over b) n (laneAt value inside color)
         ∙ same-rule n (λ k. over b (laneAt value inside color k)) (laneAt value inside' color')
-        (λ k r. over-lane b (getD value k nan) (getD inside k false) (getD inside' k false) (getD color k 0) (getD color' k 0) (lane-at q false k r) (lane-at p 0 k r))
+        (λ k r.
+        over-lane b (getD value k nan) (getD inside k false) (getD inside' k false) (getD color k 0) (getD color' k 0) (lane-at q false k r) (lane-at p 0 k r))
 
     alls : allInside next ≡ all
-    alls = all-inside n (laneAt value inside' color') ∙ below-same n (λ k. getD inside' k false) (λ k. getD inside k false || holds b (getD value k nan)) (lane-at q false) ∙ sym a
+    alls =
+        all-inside n (laneAt value inside' color')
+        ∙ below-same n (λ k. getD inside' k false) (λ k. getD inside k false || holds b (getD value k nan)) (lane-at q false) ∙ sym a
 
     turned : cond all (record { finished = true; lanes = next }) (swept (drop (i + 1) bands) next) ≡ swept bands chunk
     unfolding swept
@@ -180,7 +185,8 @@ module _ (starts ends : List Float) (colors : List ℕ) (count : ℕ) (nodata n 
         }
 
   -- past the last band
-  pub scanning-end : {i : ℕ} {inside : List Bool} {color : List ℕ} → Scanning i inside color → count ≤ i → Scanned n bands nodata value (record { colors = color; finished = false })
+  pub scanning-end : {i : ℕ} {inside : List Bool} {color : List ℕ} → Scanning i inside color → count ≤ i
+      → Scanned n bands nodata value (record { colors = color; finished = false })
   unfolding swept
   scanning-end {i} {inside} {color} s h =
       record {

@@ -188,7 +188,9 @@ module _ (starts ends : List Float) (colors : List ℕ) (count nodata n : ℕ) (
       }
     where
       finishes : all ≡ allBelow n held
-      finishes = a ∙ below-same n (λ k. heldAt starts ends (getD places k 0) (v k)) held (λ k q. ap (λ (j : ℕ). heldAt starts ends j (v k)) (lane-at (h .counted) 0 k q))
+      finishes =
+          a ∙ below-same n (λ k. heldAt starts ends (getD places k 0) (v k)) held
+          (λ k q. ap (λ (j : ℕ). heldAt starts ends j (v k)) (lane-at (h .counted) 0 k q))
 
       word : (k : ℕ) → k < n → colorAt starts ends colors (getD places k 0) (v k) (getD (replicate 16 nodata) k 0) ≡ after count k .color
       word k q =

@@ -33,7 +33,8 @@ module _ (l : ℕ) (bands : List LegendBand) (p : BandedPaint) (v : List Float) 
       let front : take l colors ≡ cs = padded-front 0 16 cs colored colors-length in
       let n : l ≤ length colors = omega (arith, ap length colored, length-padded 0 16 cs (omega (arith, colors-length))) in
       lanes-padded masks
-      (lanes-masked e (p .unmappable .nodata) l d v colors (omega (arith, lanes-length masks h)) m n (lane-at masks 0) ∙ ap (masked e (p .unmappable .nodata) (take l v)) front)
+      (lanes-masked e (p .unmappable .nodata) l d v colors (omega (arith, lanes-length masks h)) m n (lane-at masks 0)
+      ∙ ap (masked e (p .unmappable .nodata) (take l v)) front)
 
   -- the words of the chunk again
   pub chunk-words : {d : List ℕ} → d ≡ padded 0 16 (laneChunk bands p (take l v)) → take l d ≡ laneChunk bands p (take l v)

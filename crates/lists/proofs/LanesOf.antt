@@ -49,7 +49,8 @@ pub lanes-all : {A : Type 0} (z y : A) {f : ℕ → A} {r : List A} → length r
 lanes-all z y {f} {r} e h = record { is = tabulated y 16 f r e h ∙ sym (padded-full z 16 (tabulate 16 f) (length-tabulate 16 f)) }
 
 -- from what each lane holds, up to l and from l on
-pub lanes-each : {A : Type 0} (z y : A) (l : ℕ) (f : ℕ → A) (r : List A) → l ≤ 16 → length r ≡ 16 → Lanes y l r f → ((k : ℕ) → l ≤ k → k < 16 → getD r k y ≡ z) → LanesOf z l f r
+pub lanes-each : {A : Type 0} (z y : A) (l : ℕ) (f : ℕ → A) (r : List A) → l ≤ 16 → length r ≡ 16 → Lanes y l r f
+    → ((k : ℕ) → l ≤ k → k < 16 → getD r k y ≡ z) → LanesOf z l f r
 lanes-each z y l f r g e below past =
     let n = length-tabulate l f in
     record {
@@ -63,4 +64,5 @@ lanes-each z y l f r g e below past =
 -- an array of z, where the rule gives z below l
 pub lanes-blank : {A : Type 0} (z : A) (l : ℕ) (f : ℕ → A) → l ≤ 16 → ((k : ℕ) → k < l → f k ≡ z) → LanesOf z l f (replicate 16 z)
 lanes-blank z l f g h =
-    lanes-each z z l f (replicate 16 z) g (length-replicate 16 z) (λ k q. getD-replicate 16 k z z (omega arith) ∙ sym (h k q)) (λ k q m. getD-replicate 16 k z z m)
+    lanes-each z z l f (replicate 16 z) g (length-replicate 16 z) (λ k q. getD-replicate 16 k z z (omega arith) ∙ sym (h k q))
+    (λ k q m. getD-replicate 16 k z z m)

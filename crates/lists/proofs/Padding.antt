@@ -106,9 +106,10 @@ module _ {A : Type 0} {z : A} {f : ℕ → A} {n l : ℕ} where
   storing-end s h = s .is ∙ ap (λ (i : ℕ). padded z n (tabulate i f)) (le-antisymm (s .upto) h)
 
 -- a loop that stores a part of a list
-pub storing-part : {A : Type 0} {z : A} {n l i : ℕ} {r : List A} (y : A) (xs : List A) (base : ℕ) → Storing z (λ k. getD xs (base + k) y) n l i r → l ≤ i → base + l ≤ length xs
-    → r ≡ padded z n (take l (drop base xs))
+pub storing-part : {A : Type 0} {z : A} {n l i : ℕ} {r : List A} (y : A) (xs : List A) (base : ℕ)
+    → Storing z (λ k. getD xs (base + k) y) n l i r → l ≤ i → base + l ≤ length xs → r ≡ padded z n (take l (drop base xs))
 storing-part {A} {z} {n} {l} y xs base s h g =
-    storing-end s h
-    ∙ ap (padded z n)
-    (sym (tabulated y l (λ k. getD xs (base + k) y) (take l (drop base xs)) (length-take-le l (drop base xs) (omega (arith, length-drop base xs))) (λ k q. getD-take l (drop base xs) k y q ∙ getD-drop base xs k y)))
+    let part = take l (drop base xs) in
+    let e : length part ≡ l = length-take-le l (drop base xs) (omega (arith, length-drop base xs)) in
+    let each : (k : ℕ) → k < l → getD part k y ≡ getD xs (base + k) y = λ k q. getD-take l (drop base xs) k y q ∙ getD-drop base xs k y in
+    storing-end s h ∙ ap (padded z n) (sym (tabulated y l (λ k. getD xs (base + k) y) part e each))

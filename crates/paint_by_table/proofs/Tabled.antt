@@ -13,7 +13,8 @@ use Rattle.table_words.specs.Rule.{tableColor}
 use Rattle.paint_by_table.specs.declared.CategoricPaint.{CategoricPaint}
 use Rattle.paint_by_table.specs.Rules.{tableSample, tableChunk}
 
-module _ (l : ℕ) (lookup : List ℕ) (size : ℕ) (p : CategoricPaint) (v : List Float) (d : List ℕ) (m : l ≤ length v) (n : l ≤ length d) (e : LanesOf 0 l (λ k. tableSample lookup size p (getD v k nan)) d) where
+module _ (l : ℕ) (lookup : List ℕ) (size : ℕ) (p : CategoricPaint) (v : List Float) (d : List ℕ) (m : l ≤ length v) (n : l ≤ length d)
+    (e : LanesOf 0 l (λ k. tableSample lookup size p (getD v k nan)) d) where
   pub mapped : take l d ≡ map (tableSample lookup size p) (take l v)
   mapped = lanes-list nan 0 (tableSample lookup size p) l d v n m (lane-at e 0)
 

@@ -13,8 +13,8 @@ use Rattle.linear_rule.specs.Rule.{laneColor}
 use Rattle.paint_linear.specs.declared.LinearPaint.{LinearPaint}
 use Rattle.paint_linear.specs.Rules.{laneSample, laneChunk}
 
-pub lane-words : (l : ℕ) (cmap : List ℕ) (p : LinearPaint) (v : List Float) (d : List ℕ) → l ≤ length v → l ≤ length d → LanesOf 0 l (λ k. laneSample cmap p (getD v k nan)) d
-    → take l d ≡ laneChunk cmap p (take l v)
+pub lane-words : (l : ℕ) (cmap : List ℕ) (p : LinearPaint) (v : List Float) (d : List ℕ) → l ≤ length v → l ≤ length d
+    → LanesOf 0 l (λ k. laneSample cmap p (getD v k nan)) d → take l d ≡ laneChunk cmap p (take l v)
 lane-words l cmap p v d h g e =
     lanes-list nan 0 (laneSample cmap p) l d v g h (lane-at e 0)
     ∙ sym (masked-map (excluded (p .exclusions)) (p .colors .nodata) (laneColor cmap (p .start) (p .end) (p .colors)) (take l v))

@@ -1,4 +1,5 @@
--- The two rules of a linear legend for painting: one sample plainly and in a lane, and the lanes of a chunk, unmappable samples included (docs/RULES.md, "Linear"). Definitions only.
+-- The two rules of a linear legend for painting, unmappable samples included: one sample plainly and in a lane, and the lanes of a chunk
+-- (docs/RULES.md, "Linear"). Definitions only.
 use Prim.Native.Nat.{ℕ}
 use mathlib.Core.List.{List}
 use lib.Ieee.{Float}

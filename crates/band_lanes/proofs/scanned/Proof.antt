@@ -18,7 +18,8 @@ starting-colors-requires c κs = search needs
 loop-holds : tie.Need-loop-holds Inv-loop μ-loop
 loop-holds c =
     let a = c .before .args in
-    scanning-start (a .starts .now) (a .ends .now) (a .colors .now) (a .count) (a .nodata) (a .lanes) (a .t7) (c .starting-colors .result) (search needs) (search needs) (c .starting-colors .ensures)
+    scanning-start (a .starts .now) (a .ends .now) (a .colors .now) (a .count) (a .nodata) (a .lanes) (a .t7) (c .starting-colors .result) (search needs)
+    (search needs) (c .starting-colors .ensures)
 
 band-at-requires : tie.Need-band-at-requires Inv-loop μ-loop
 band-at-requires c κs = search needs
@@ -32,7 +33,8 @@ returns c =
     let a = s .before .before .args in
     let e = c .before .enter in
     scanning-finished (a .starts .now) (a .ends .now) (a .colors .now) (a .count) (a .nodata) (a .lanes) (a .t7) (e .last .1 .1 .1 .1 .0) (e .last .1 .1 .1 .0)
-    (s .loop .inv) (omega arith) (c .before .before .before .before .before .band-at .ensures) (e .ensures .0) (e .ensures .1 .0) (e .ensures .1 .1) (c .if1 .taken)
+    (s .loop .inv) (omega arith) (c .before .before .before .before .before .band-at .ensures) (e .ensures .0) (e .ensures .1 .0) (e .ensures .1 .1)
+    (c .if1 .taken)
 
 add-i : tie.Need-add-i Inv-loop μ-loop
 add-i c = search needs
@@ -46,7 +48,8 @@ loop-again c =
     let a = s .before .before .args in
     let e = c .before .enter in
     scanning-turn (a .starts .now) (a .ends .now) (a .colors .now) (a .count) (a .nodata) (a .lanes) (a .t7) (e .last .1 .1 .1 .1 .0) (e .last .1 .1 .1 .0)
-    (s .loop .inv) (omega arith) (c .before .before .before .before .before .band-at .ensures) (e .ensures .0) (e .ensures .1 .0) (e .ensures .1 .1) (c .if1 .left)
+    (s .loop .inv) (omega arith) (c .before .before .before .before .before .band-at .ensures) (e .ensures .0) (e .ensures .1 .0) (e .ensures .1 .1)
+    (c .if1 .left)
 
 returns-2 : tie.Need-returns-2 Inv-loop μ-loop
 returns-2 c =

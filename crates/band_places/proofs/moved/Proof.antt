@@ -58,7 +58,8 @@ loop-again : tie.Need-loop-again Inv-loop μ-loop
 loop-again c =
     let l = c .before in
     let a = l .before .args in
-    storing-turn (l .loop .inv) (omega arith) (omega arith) (ap (λ (n : ℕ). getD (a .t4) (l .loop .i) 0 + n) (flag-is (le (a .start) (getD (a .t3) (l .loop .i) nan))))
+    storing-turn (l .loop .inv) (omega arith) (omega arith)
+    (ap (λ (n : ℕ). getD (a .t4) (l .loop .i) 0 + n) (flag-is (le (a .start) (getD (a .t3) (l .loop .i) nan))))
 
 returns : tie.Need-returns Inv-loop μ-loop
 returns c = lanes-stored (c .before .loop .inv) (omega arith)

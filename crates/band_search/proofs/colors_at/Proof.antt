@@ -11,7 +11,8 @@ use Rattle.band_search.proofs.colors_at.Statement.{statement}
 use Rattle.band_search.proofs.colors_at.Tie as tie
 
 abbrev Inv-loop : tie.InvT-loop
-Inv-loop lanes starts ends colors places value otherwise result₀ i₀ result i = Storing 0 (λ k. colorAt starts ends colors (getD places k 0) (getD value k nan) (getD otherwise k 0)) 16 lanes i result
+Inv-loop lanes starts ends colors places value otherwise result₀ i₀ result i =
+    Storing 0 (λ k. colorAt starts ends colors (getD places k 0) (getD value k nan) (getD otherwise k 0)) 16 lanes i result
 
 abbrev μ-loop : tie.MeasureT-loop
 μ-loop lanes starts ends colors places value otherwise result₀ i₀ result i = lanes - i

@@ -14,7 +14,9 @@ returns : tie.Need-returns
 returns c =
     let a = c .before .args in
     lanes-all 0 0 (length-replicate 16 (a .u .nodata))
-    (λ k q. getD-replicate 16 k (a .u .nodata) 0 q ∙ sym (plain-none (a .starts .now) (a .ends .now) (a .colors .now) (a .count) (a .u) (getD (a .value) k nan) (c .if1 .taken)))
+    (λ k q.
+    getD-replicate 16 k (a .u .nodata) 0 q
+    ∙ sym (plain-none (a .starts .now) (a .ends .now) (a .colors .now) (a .count) (a .u) (getD (a .value) k nan) (c .if1 .taken)))
 
 band-at-requires : tie.Need-band-at-requires
 band-at-requires c κs = search needs
@@ -39,7 +41,9 @@ returns-2 c =
     let s = c .before .before .before .before .before .before in
     let a = s .args in
     lanes-agree (c .colors-at .ensures)
-    (λ k q. plain-at-place (a .starts .now) (a .ends .now) (a .colors .now) (a .count) (a .u) (getD (a .value) k nan) (omega arith) (s .pre .1) (lane-at (c .before .places-of .ensures .counted) 0 k q)
+    (λ k q.
+    plain-at-place (a .starts .now) (a .ends .now) (a .colors .now) (a .count) (a .u) (getD (a .value) k nan) (omega arith) (s .pre .1)
+    (lane-at (c .before .places-of .ensures .counted) 0 k q)
     (c .before .before .before .before .band-at .ensures) (c .before .before .before .band-at2 .ensures) (c .before .before .edge-colors .ensures k q))
 
 pub colors-for-numeric-values-spec : {M : Type 1} → statement M

@@ -17,8 +17,12 @@ all-held-requires c κs = search needs
 
 settled-requires : tie.Need-settled-requires
 settled-requires c κs =
-    let s = c .before .before .before in
-    (omega arith, s .pre .0, scan-at-places _ _ _ _ _ 8 _ (s .pre .1 .some) (s .pre .1 .far) (omega arith) (omega arith) (search needs) (c .before .before .places-of .ensures) (c .before .colors-at .ensures) (c .all-held .ensures))
+    let s = c .before .before .before in (
+      omega arith,
+      s .pre .0,
+      scan-at-places _ _ _ _ _ 8 _ (s .pre .1 .some) (s .pre .1 .far) (omega arith) (omega arith) (search needs)
+          (c .before .before .places-of .ensures) (c .before .colors-at .ensures) (c .all-held .ensures),
+    )
 
 masked-simd-requires : tie.Need-masked-simd-requires
 masked-simd-requires c κs = search needs

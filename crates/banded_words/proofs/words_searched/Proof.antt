@@ -16,7 +16,8 @@ returns : tie.Need-returns
 returns c =
     let a = c .before .before .args in
     let p = a .p in
-    masked-lanes (p .exclusions) (p .unmappable .nodata) (plainColor (packed (a .starts .now) (a .ends .now) (a .colors .now) (p .count)) (p .unmappable)) (a .v) (c .before .colors-for-numeric-values .result)
+    masked-lanes (p .exclusions) (p .unmappable .nodata) (plainColor (packed (a .starts .now) (a .ends .now) (a .colors .now) (p .count)) (p .unmappable))
+    (a .v) (c .before .colors-for-numeric-values .result)
     (c .before .colors-for-numeric-values .ensures) (c .masked-simd .ensures)
 
 pub words-searched-spec : {M : Type 1} → statement M

@@ -18,8 +18,9 @@ in-ranges-requires c κs = search needs
 
 returns : tie.Need-returns
 returns c =
-    lanes-agree (c .in-ranges .ensures)
-    (λ k h. lane-phases _ _ _ _ _ (lane-at (c .before .before .linear-map-to-float-simd .ensures) nan k h) (lane-at (c .before .get-color-simd .ensures) 0 k h) refl)
+    let fractions = lane-at (c .before .before .linear-map-to-float-simd .ensures) nan in
+    let colors = lane-at (c .before .get-color-simd .ensures) 0 in
+    lanes-agree (c .in-ranges .ensures) (λ k h. lane-phases _ _ _ _ _ (fractions k h) (colors k h) refl)
 
 pub color-for-numeric-value-simd8-spec : {M : Type 1} → statement M
 color-for-numeric-value-simd8-spec =

@@ -11,7 +11,8 @@ use Rattle.linear_rule.proofs.in_ranges.Statement.{statement}
 use Rattle.linear_rule.proofs.in_ranges.Tie as tie
 
 abbrev Inv-loop : tie.InvT-loop
-Inv-loop lanes start end u value color result₀ i₀ result i = Storing 0 (λ k. byRange start end (getD value k nan) (u .low) (u .high) (getD color k 0)) 16 lanes i result
+Inv-loop lanes start end u value color result₀ i₀ result i =
+    Storing 0 (λ k. byRange start end (getD value k nan) (u .low) (u .high) (getD color k 0)) 16 lanes i result
 
 abbrev μ-loop : tie.MeasureT-loop
 μ-loop lanes start end u value color result₀ i₀ result i = lanes - i

@@ -52,7 +52,10 @@ loop-less : tie.Need-loop-less Inv-loop μ-loop
 loop-less c = search needs
 
 loop-again : tie.Need-loop-again Inv-loop μ-loop
-loop-again c = storing-turn (c .before .before .before .before .loop .inv) (omega arith) (omega arith) (ap (λ k. getD (c .before .before .before .before .before .args .cmap .now) k 0) (c .before .lane-index .ensures .0 ∙ ap laneIndex (c .before .before .unit .ensures .0)))
+loop-again c =
+    let l = c .before .before .before .before in
+    let index = c .before .lane-index .ensures .0 ∙ ap laneIndex (c .before .before .unit .ensures .0) in
+    storing-turn (l .loop .inv) (omega arith) (omega arith) (ap (λ k. getD (l .before .args .cmap .now) k 0) index)
 
 returns : tie.Need-returns Inv-loop μ-loop
 returns c = lanes-stored (c .before .loop .inv) (omega arith)

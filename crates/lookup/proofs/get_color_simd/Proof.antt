@@ -19,8 +19,9 @@ mappable-requires c κs = search needs
 returns : tie.Need-returns
 returns c =
     let a = c .before .before .args in
+    let gathered = lane-at (c .before .gather .ensures) 0 in
     lanes-agree (c .mappable .ensures)
-    (λ k h. ap (λ w. cond (inUnit (getD (a .fraction) k nan)) w 0) (lane-at (c .before .gather .ensures) 0 k h) ∙ lane-chosen (getD (a .fraction) k nan) (a .cmap .now))
+    (λ k h. ap (λ w. cond (inUnit (getD (a .fraction) k nan)) w 0) (gathered k h) ∙ lane-chosen (getD (a .fraction) k nan) (a .cmap .now))
 
 pub get-color-simd-spec : {M : Type 1} → statement M
 get-color-simd-spec = tie.close (tie.spec gather-requires mappable-requires returns)

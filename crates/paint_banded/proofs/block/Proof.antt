@@ -31,7 +31,8 @@ returns c =
     let a = s .before .before .before .args in
     let rule = plainSample (packed (a .starts .now) (a .ends .now) (a .colors .now) (a .p .count)) (a .p) in
     let words = lanes-list nan 0 rule 16 (w .result) (s .load .result) (search needs) (search needs) (lane-at (w .ensures) 0) in
-    chunk-is _ _ _ _ _ 16 (w .result) (s .load .result) refl (c .before .before .store .ensures) words (padded-part _ 16 (a .src .now) (a .base) 16 (s .load .ensures) (omega arith))
+    chunk-is _ _ _ _ _ 16 (w .result) (s .load .result) refl (c .before .before .store .ensures) words
+    (padded-part _ 16 (a .src .now) (a .base) 16 (s .load .ensures) (omega arith))
 
 pub block-spec : {M : Type 1} → statement M
 block-spec =

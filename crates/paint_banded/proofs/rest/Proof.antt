@@ -39,7 +39,8 @@ returns-2 c =
     let rule = plainSample (packed (a .starts .now) (a .ends .now) (a .colors .now) (a .p .count)) (a .p) in
     let words = lanes-list nan 0 rule 16 (w .result) (l .result) (search needs) (search needs) (lane-at (w .ensures) 0) in
     let part = padded-part _ 16 (a .src .now) (a .base) (length (a .src .now) - a .base) (l .ensures) (omega arith) in
-    rest-is rule (a .src .now) (a .out .now) (a .base) 16 (w .result) (l .result) (omega arith) (omega arith) (omega arith) (c .before .before .store .ensures) words part
+    rest-is rule (a .src .now) (a .out .now) (a .base) 16 (w .result) (l .result) (omega arith) (omega arith) (omega arith) (c .before .before .store .ensures)
+    words part
 
 pub rest-spec : {M : Type 1} → statement M
 rest-spec =

@@ -26,7 +26,8 @@ returns c =
     let w = c .before .before .before .before .words16 in
     let a = s .before .before .before .args in
     let words = mapped 16 (a .lookup .now) (a .size) (a .p) (s .load .result) (w .result) (search needs) (search needs) (w .ensures) in
-    chunk-is _ _ _ _ _ 16 (w .result) (s .load .result) refl (c .before .before .store .ensures) words (padded-part _ 16 (a .src .now) (a .base) 16 (s .load .ensures) (omega arith))
+    chunk-is _ _ _ _ _ 16 (w .result) (s .load .result) refl (c .before .before .store .ensures) words
+    (padded-part _ 16 (a .src .now) (a .base) 16 (s .load .ensures) (omega arith))
 
 pub block-spec : {M : Type 1} → statement M
 block-spec =

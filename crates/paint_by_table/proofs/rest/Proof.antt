@@ -34,7 +34,8 @@ returns-2 c =
     let a = c .before .before .before .before .before .before .before .before .before .args in
     let words = mapped 16 (a .lookup .now) (a .size) (a .p) (l .result) (w .result) (search needs) (search needs) (w .ensures) in
     let part = padded-part _ 16 (a .src .now) (a .base) (length (a .src .now) - a .base) (l .ensures) (omega arith) in
-    rest-is _ (a .src .now) (a .out .now) (a .base) 16 (w .result) (l .result) (omega arith) (omega arith) (omega arith) (c .before .before .store .ensures) words part
+    rest-is _ (a .src .now) (a .out .now) (a .base) 16 (w .result) (l .result) (omega arith) (omega arith) (omega arith) (c .before .before .store .ensures)
+    words part
 
 pub rest-spec : {M : Type 1} → statement M
 rest-spec =

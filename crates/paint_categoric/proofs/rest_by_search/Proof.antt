@@ -32,7 +32,8 @@ returns-2 c keys count n =
     let l = c .before .before .before .before .before .load in
     let a = c .before .before .before .before .before .before .before .before .before .args in
     let part = padded-part _ 16 (a .src .now) (a .base) (length (a .src .now) - a .base) (l .ensures) (omega arith) in
-    rest-is _ (a .src .now) (a .out .now) (a .base) 16 (w .result) (l .result) (omega arith) (omega arith) (omega arith) (c .before .before .store .ensures) (w .ensures keys count n) part
+    rest-is _ (a .src .now) (a .out .now) (a .base) 16 (w .result) (l .result) (omega arith) (omega arith) (omega arith) (c .before .before .store .ensures)
+    (w .ensures keys count n) part
 
 pub rest-by-search-spec : {M : Type 1} → statement M
 rest-by-search-spec =

@@ -29,7 +29,8 @@ returns c =
     let w = c .before .before .before .before .words-plain in
     let a = s .before .before .before .args in
     let words = lanes-list nan 0 (plainSample (a .cmap .now) (a .p)) 16 (w .result) (s .load .result) (search needs) (search needs) (lane-at (w .ensures) 0) in
-    chunk-is _ _ _ _ _ 16 (w .result) (s .load .result) refl (c .before .before .store .ensures) words (padded-part _ 16 (a .src .now) (a .base) 16 (s .load .ensures) (omega arith))
+    chunk-is _ _ _ _ _ 16 (w .result) (s .load .result) refl (c .before .before .store .ensures) words
+    (padded-part _ 16 (a .src .now) (a .base) 16 (s .load .ensures) (omega arith))
 
 pub block-spec : {M : Type 1} → statement M
 block-spec =

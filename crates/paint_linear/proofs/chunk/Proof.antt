@@ -26,7 +26,8 @@ returns c =
     let w = c .before .before .before .before .words4 in
     let a = s .before .before .before .before .args in
     let words = lane-words 4 (a .cmap .now) (a .p) (s .load .result) (w .result) (search needs) (search needs) (w .ensures) in
-    chunk-is _ _ _ _ _ 4 (w .result) (s .load .result) (s .before .if1 .taken) (c .before .before .store .ensures) words (padded-part _ 16 (a .src .now) (a .base) 4 (s .load .ensures) (omega arith))
+    chunk-is _ _ _ _ _ 4 (w .result) (s .load .result) (s .before .if1 .taken) (c .before .before .store .ensures) words
+    (padded-part _ 16 (a .src .now) (a .base) 4 (s .load .ensures) (omega arith))
 
 load-requires-2 : tie.Need-load-requires-2
 load-requires-2 c κs = search needs
@@ -46,7 +47,8 @@ returns-2 c =
     let w = c .before .before .before .before .words8 in
     let a = s .before .before .before .before .before .args in
     let words = lane-words 8 (a .cmap .now) (a .p) (s .load2 .result) (w .result) (search needs) (search needs) (w .ensures) in
-    chunk-is _ _ _ _ _ 8 (w .result) (s .load2 .result) (s .before .if2 .taken) (c .before .before .store2 .ensures) words (padded-part _ 16 (a .src .now) (a .base) 8 (s .load2 .ensures) (omega arith))
+    chunk-is _ _ _ _ _ 8 (w .result) (s .load2 .result) (s .before .if2 .taken) (c .before .before .store2 .ensures) words
+    (padded-part _ 16 (a .src .now) (a .base) 8 (s .load2 .ensures) (omega arith))
 
 load-requires-3 : tie.Need-load-requires-3
 load-requires-3 c κs = (search needs, omega (arith, lane-sixteen (c .before .before .before .before .args .l) (c .before .before .before .before .pre .0) (c .before .if1 .left) (c .if2 .left)))
@@ -68,7 +70,8 @@ returns-3 c =
     let a = b .args in
     let sixteen = lane-sixteen (a .l) (b .pre .0) (s .before .before .if1 .left) (s .before .if2 .left) in
     let words = lane-words 16 (a .cmap .now) (a .p) (s .load3 .result) (w .result) (search needs) (search needs) (w .ensures) in
-    chunk-is _ _ _ _ _ 16 (w .result) (s .load3 .result) sixteen (c .before .before .store3 .ensures) words (padded-part _ 16 (a .src .now) (a .base) 16 (s .load3 .ensures) (omega (arith, sixteen)))
+    chunk-is _ _ _ _ _ 16 (w .result) (s .load3 .result) sixteen (c .before .before .store3 .ensures) words
+    (padded-part _ 16 (a .src .now) (a .base) 16 (s .load3 .ensures) (omega (arith, sixteen)))
 
 pub chunk-spec : {M : Type 1} → statement M
 chunk-spec =

@@ -15,7 +15,8 @@ returns : tie.Need-returns
 returns c =
     let a = c .before .before .args in
     let p = a .p in
-    masked-lanes (p .exclusions) (p .colors .nodata) (laneColor (a .cmap .now) (p .start) (p .end) (p .colors)) (a .v) _ (c .before .color-for-numeric-value-simd16 .ensures) (c .masked-simd .ensures)
+    masked-lanes (p .exclusions) (p .colors .nodata) (laneColor (a .cmap .now) (p .start) (p .end) (p .colors)) (a .v) _
+    (c .before .color-for-numeric-value-simd16 .ensures) (c .masked-simd .ensures)
 
 pub words16-spec : {M : Type 1} → statement M
 words16-spec =

@@ -17,10 +17,13 @@ clamped-lanes-requires c κs = search needs
 words-at-requires : tie.Need-words-at-requires
 words-at-requires c κs =
     let s = c .before in
-    (s .pre .0, λ k q. subst (λ x. T (isPlace x)) (sym (lane-at (c .clamped-lanes .ensures) nan k q)) (kept-place (s .args .size) (s .pre .1) (getD (s .args .value) k nan)))
+    let clamped = lane-at (c .clamped-lanes .ensures) nan in
+    (s .pre .0, λ k q. subst (λ x. T (isPlace x)) (sym (clamped k q)) (kept-place (s .args .size) (s .pre .1) (getD (s .args .value) k nan)))
 
 returns : tie.Need-returns
-returns c = lanes-agree (c .words-at .ensures) (λ k q. ap (λ x. getD (c .before .before .args .lookup .now) (floorOf x) 0) (lane-at (c .before .clamped-lanes .ensures) nan k q))
+returns c =
+    lanes-agree (c .words-at .ensures)
+    (λ k q. ap (λ x. getD (c .before .before .args .lookup .now) (floorOf x) 0) (lane-at (c .before .clamped-lanes .ensures) nan k q))
 
 pub gather-spec : {M : Type 1} → statement M
 gather-spec = tie.close (tie.spec clamped-lanes-requires words-at-requires returns)

@@ -13,7 +13,8 @@ use Rattle.table_words.proofs.known.Statement.{statement}
 use Rattle.table_words.proofs.known.Tie as tie
 
 abbrev Inv-loop : tie.InvT-loop
-Inv-loop lanes size nodata value words absent zero result₀ i₀ result i = Storing 0 (λ k. cond (shown (record { nodata = absent; zero = zero }) size (getD value k nan)) (getD words k 0) nodata) 16 lanes i result
+Inv-loop lanes size nodata value words absent zero result₀ i₀ result i =
+    Storing 0 (λ k. cond (shown (record { nodata = absent; zero = zero }) size (getD value k nan)) (getD words k 0) nodata) 16 lanes i result
 
 abbrev μ-loop : tie.MeasureT-loop
 μ-loop lanes size nodata value words absent zero result₀ i₀ result i = lanes - i
