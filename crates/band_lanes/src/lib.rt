@@ -96,7 +96,7 @@ fn starting_colors(lanes: usize, nodata: u32) -> [u32; 16]
     result
 }
 
-// A band over the lanes that it holds. Whether each lane now lies in some band.
+// A band over the lanes that it holds, in arrays that have 0 and false in the others. Whether each lane now lies in some band.
 fn enter(
     lanes: usize,
     band: LegendBand,

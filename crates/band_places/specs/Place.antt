@@ -24,7 +24,7 @@ colorAt starts ends colors place v otherwise = cond (heldAt starts ends place v)
 abbrev pub InArrays : (lanes : ℕ) (places : List ℕ) → Type 0
 InArrays lanes places = (k : ℕ) → k < lanes → getD places k 0 < 64
 
--- each lane has its sample's place, and those from the count on 0
+-- each of the first lanes has its sample's place, and the others 0
 pub record Placed (lanes : ℕ) (starts : List Float) (count : ℕ) (value : List Float) (places : List ℕ) : Type 0 where
   pub counted : LanesOf 0 lanes (λ k. placeOf starts count (getD value k nan)) places
   pub inArrays : InArrays lanes places
