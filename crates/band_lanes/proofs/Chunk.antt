@@ -7,8 +7,10 @@ use native.Mathlib.Numerals.{add-one}
 use native.Mathlib.Omega.{arith}
 use lib.Ieee.{Float, nan}
 use lib.ListN.{length, getD, take, drop, replicate, getD-replicate}
-use Rattle.lists.specs.Lanes.{Lanes}
+use Rattle.lists.specs.Lanes.{LanesOf}
+use Rattle.lists.specs.Padded.{padded}
 use Rattle.lists.specs.Tabulate.{tabulate}
+use Rattle.lists.proofs.LanesOf.{lane-at, lanes-own, lanes-blank}
 use Rattle.bands.specs.declared.LegendBand.{LegendBand}
 use Rattle.bands.specs.Band.{holds}
 use Rattle.lane_edges.specs.Edges.{Lane}
@@ -91,8 +93,9 @@ unfolding tabulate
 all-inside zero f = unfold allBelow in refl
 all-inside (suc n) f = ap (λ (b : Bool). f 0 .inside && b) (all-inside n (λ k. f (suc k))) ∙ below-first n (λ k. f k .inside)
 
-shown : (n : ℕ) (value : List Float) (inside : List Bool) (color : List ℕ) → n ≤ length color → take n color ≡ map (λ (l : Lane). l .color) (lanesOf n value inside color)
-shown n value inside color l = front 0 n (λ k. getD color k 0) color l (λ k r. refl) ∙ sym (map-rule (λ (l : Lane). l .color) n (laneAt value inside color))
+shown : (n : ℕ) (value : List Float) (inside : List Bool) (color : List ℕ) → LanesOf 0 n (λ k. getD color k 0) color
+    → color ≡ padded 0 16 (map (λ (l : Lane). l .color) (lanesOf n value inside color))
+shown n value inside color e = e .is ∙ ap (padded 0 16) (sym (map-rule (λ (l : Lane). l .color) n (laneAt value inside color)))
 
 -- a band over one lane
 over-lane : (b : LegendBand) (v : Float) (i i' : Bool) (c c' : ℕ) → i' ≡ (i || holds b v) → c' ≡ cond (holds b v) (b .color) c → over b (laneOf v i c) ≡ laneOf v i' c'
@@ -120,22 +123,30 @@ module _ (starts ends : List Float) (colors : List ℕ) (count : ℕ) (nodata n 
   -- the bands from i on make of the lanes so far what all bands make of the chunk
   pub record Scanning (i : ℕ) (inside : List Bool) (color : List ℕ) : Type 0 where
     pub upto : i ≤ count
-    pub longs : (length inside ≡ 16) × (length color ≡ 16)
+    pub insides : LanesOf false n (λ k. getD inside k false) inside
+    pub colored : LanesOf 0 n (λ k. getD color k 0) color
     pub goes : swept (drop i bands) (lanesOf n value inside color) ≡ swept bands chunk
 
-  pub scanning-start : n ≤ 16 → n ≤ length value → Scanning 0 (replicate 16 false) (replicate 16 nodata)
-  scanning-start h l = record { upto = omega arith; longs = (refl, refl); goes = ap (swept bands) (sym lanes) }
+  pub scanning-start : (color : List ℕ) → n ≤ 16 → n ≤ length value → LanesOf 0 n (λ k. nodata) color → Scanning 0 (replicate 16 false) color
+  scanning-start color h l e =
+      record {
+        upto = omega arith;
+        insides = lanes-blank false n (λ k. getD (replicate 16 false) k false) h (λ k q. getD-replicate 16 k false false (omega arith));
+        colored = lanes-own e 0;
+        goes = ap (swept bands) (sym lanes);
+      }
     where
-      lanes : chunk ≡ lanesOf n value (replicate 16 false) (replicate 16 nodata)
+      lanes : chunk ≡ lanesOf n value (replicate 16 false) color
       lanes =
           ap (map (started nodata)) (values l) ∙ map-rule (started nodata) n (λ k. getD value k nan)
-          ∙ same-rule n (λ k. started nodata (getD value k nan)) (laneAt value (replicate 16 false) (replicate 16 nodata))
-          (λ k q. ap₂ (λ (x : Bool) (y : ℕ). laneOf (getD value k nan) x y) (sym (getD-replicate 16 k false false (omega arith))) (sym (getD-replicate 16 k nodata 0 (omega arith))))
+          ∙ same-rule n (λ k. started nodata (getD value k nan)) (laneAt value (replicate 16 false) color)
+          (λ k q. ap₂ (λ (x : Bool) (y : ℕ). laneOf (getD value k nan) x y) (sym (getD-replicate 16 k false false (omega arith))) (sym (lane-at e 0 k q)))
 
   -- band i over the lanes
   module _ {i : ℕ} {inside : List Bool} {color : List ℕ} (inside' : List Bool) (color' : List ℕ) {b : LegendBand} {all : Bool} (s : Scanning i inside color) (h : i < count) (e : b ≡ f i)
-      (p : Lanes 0 n color' (λ k. cond (holds b (getD value k nan)) (b .color) (getD color k 0))) (q : Lanes false n inside' (λ k. getD inside k false || holds b (getD value k nan)))
-      (a : all ≡ allBelow n (λ k. getD inside k false || holds b (getD value k nan))) (g : n ≤ 16) (ls : (length inside' ≡ 16) × (length color' ≡ 16)) where
+      (p : LanesOf 0 n (λ k. cond (holds b (getD value k nan)) (b .color) (getD color k 0)) color')
+      (q : LanesOf false n (λ k. getD inside k false || holds b (getD value k nan)) inside')
+      (a : all ≡ allBelow n (λ k. getD inside k false || holds b (getD value k nan))) where
     abbrev next : List Lane
     next = lanesOf n value inside' color'
 
@@ -143,10 +154,13 @@ module _ (starts ends : List Float) (colors : List ℕ) (count : ℕ) (nodata n 
     overs =
         map-rule (over b) n (laneAt value inside color)
         ∙ same-rule n (λ k. over b (laneAt value inside color k)) (laneAt value inside' color')
-        (λ k r. over-lane b (getD value k nan) (getD inside k false) (getD inside' k false) (getD color k 0) (getD color' k 0) (q k r) (p k r))
+        (λ k r.
+        over-lane b (getD value k nan) (getD inside k false) (getD inside' k false) (getD color k 0) (getD color' k 0) (lane-at q false k r) (lane-at p 0 k r))
 
     alls : allInside next ≡ all
-    alls = all-inside n (laneAt value inside' color') ∙ below-same n (λ k. getD inside' k false) (λ k. getD inside k false || holds b (getD value k nan)) q ∙ sym a
+    alls =
+        all-inside n (laneAt value inside' color')
+        ∙ below-same n (λ k. getD inside' k false) (λ k. getD inside k false || holds b (getD value k nan)) (lane-at q false) ∙ sym a
 
     turned : cond all (record { finished = true; lanes = next }) (swept (drop (i + 1) bands) next) ≡ swept bands chunk
     unfolding swept
@@ -161,15 +175,24 @@ module _ (starts ends : List Float) (colors : List ℕ) (count : ℕ) (nodata n 
     at t d = ap (λ (t : Bool). cond t (record { finished = true; lanes = next }) (swept (drop (i + 1) bands) next)) (sym d) ∙ turned
 
     pub scanning-turn : all ≡ false → Scanning (i + 1) inside' color'
-    scanning-turn d = record { upto = omega arith; longs = ls; goes = at false d }
+    scanning-turn d = record { upto = omega arith; insides = lanes-own q false; colored = lanes-own p 0; goes = at false d }
 
     pub scanning-finished : all ≡ true → Scanned n bands nodata value (record { colors = color'; finished = true })
-    scanning-finished d = record { finished = ap (λ (s : Sweep). s .finished) (at true d); colors = shown n value inside' color' (omega (arith, ls .1)) ∙ ap (λ (s : Sweep). map (λ (l : Lane). l .color) (s .lanes)) (at true d) }
+    scanning-finished d =
+        record {
+          finished = ap (λ (s : Sweep). s .finished) (at true d);
+          colors = shown n value inside' color' (lanes-own p 0) ∙ ap (λ (s : Sweep). padded 0 16 (map (λ (l : Lane). l .color) (s .lanes))) (at true d);
+        }
 
   -- past the last band
-  pub scanning-end : {i : ℕ} {inside : List Bool} {color : List ℕ} → Scanning i inside color → count ≤ i → n ≤ 16 → Scanned n bands nodata value (record { colors = color; finished = false })
+  pub scanning-end : {i : ℕ} {inside : List Bool} {color : List ℕ} → Scanning i inside color → count ≤ i
+      → Scanned n bands nodata value (record { colors = color; finished = false })
   unfolding swept
-  scanning-end {i} {inside} {color} s h g = record { finished = ap (λ (s : Sweep). s .finished) left; colors = shown n value inside color (omega (arith, s .longs .1)) ∙ ap (λ (s : Sweep). map (λ (l : Lane). l .color) (s .lanes)) left }
+  scanning-end {i} {inside} {color} s h =
+      record {
+        finished = ap (λ (s : Sweep). s .finished) left;
+        colors = shown n value inside color (s .colored) ∙ ap (λ (s : Sweep). padded 0 16 (map (λ (l : Lane). l .color) (s .lanes))) left;
+      }
     where
       left : record { finished = false; lanes = lanesOf n value inside color } ≡ swept bands chunk
       left = sym (ap (λ (bs : List LegendBand). swept bs (lanesOf n value inside color)) (drop-end starts ends colors count i h)) ∙ s .goes

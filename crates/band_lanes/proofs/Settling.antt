@@ -9,9 +9,12 @@ use native.Mathlib.Omega.{arith}
 use lib.Ieee.{Float, nan}
 use lib.ListN.{length, getD, take, length-map, List·getD-map}
 use lib.Seq.{length-take-le, getD-take}
-use Rattle.lists.specs.Lanes.{Lanes}
+use Rattle.lists.specs.Lanes.{LanesOf}
+use Rattle.lists.specs.Padded.{padded}
 use Rattle.lists.specs.Tabulate.{tabulate}
 use Rattle.lists.proofs.Tabulated.{tabulate-own}
+use Rattle.lists.proofs.Padding.{getD-padded}
+use Rattle.lists.proofs.LanesOf.{lanes-agree}
 use Rattle.colormapper.specs.declared.UnmappableColors.{UnmappableColors}
 use Rattle.bands.specs.declared.LegendBand.{LegendBand}
 use Rattle.band_lanes.specs.declared.Scan.{Scan}
@@ -21,7 +24,7 @@ use Rattle.bands.specs.Packed.{bandAt, packed}
 use Rattle.band_lanes.specs.Parts.{Sweep, swept, Scanned}
 use Rattle.bands.proofs.Forms.{drop-end}
 use Rattle.band_lanes.proofs.LaneForms.{lane-none, lane-packed}
-use Rattle.band_lanes.proofs.Entries.{front, map-rule}
+use Rattle.band_lanes.proofs.Entries.{map-rule}
 use Rattle.band_lanes.proofs.Chunk.{settle, two-steps, values-kept}
 
 module _ (starts ends : List Float) (colors : List ℕ) (count : ℕ) (u : UnmappableColors) (n : ℕ) (value : List Float) where
@@ -46,10 +49,10 @@ module _ (starts ends : List Float) (colors : List ℕ) (count : ℕ) (u : Unmap
     unfolding swept
     none e = ap (λ (bs : List LegendBand). swept bs chunk) (drop-end starts ends colors count 0 (omega arith))
 
-    pub settled-none : count ≡ 0 → take n (scan .colors) ≡ laneColors bands u (take n value)
+    pub settled-none : count ≡ 0 → scan .colors ≡ padded 0 16 (laneColors bands u (take n value))
     settled-none e =
-        s .colors ∙ ap (λ (w : Sweep). map (λ (l : Lane). l .color) (w .lanes)) (none e)
-        ∙ map-map (λ (l : Lane). l .color) (started (u .nodata)) (take n value) ∙ sym (lane-none starts ends colors count u (take n value) e)
+        s .colors ∙ ap (λ (w : Sweep). padded 0 16 (map (λ (l : Lane). l .color) (w .lanes))) (none e)
+        ∙ ap (padded 0 16) (map-map (λ (l : Lane). l .color) (started (u .nodata)) (take n value) ∙ sym (lane-none starts ends colors count u (take n value) e))
 
     abbrev edge : Lane → ℕ
     edge = edged u (f 0) (f (count - 1))
@@ -70,8 +73,9 @@ module _ (starts ends : List Float) (colors : List ℕ) (count : ℕ) (u : Unmap
         differ : false ≡ true → ⊥
         differ e = let z : _≡_ {A = ℕ} 0 1 = ap (λ (b : Bool). cond b 1 0) e in omega arith
 
-    pub settled-finished : scan .finished ≡ true → take n (scan .colors) ≡ laneColors bands u (take n value)
-    settled-finished e = s .colors ∙ (unfold lasts in sym (by-edges true (some e) e))
+    pub settled-finished : scan .finished ≡ true → scan .colors ≡ padded 0 16 (laneColors bands u (take n value))
+    unfolding lasts
+    settled-finished e = s .colors ∙ ap (padded 0 16) (sym (by-edges true (some e) e))
 
     -- lane k of the last lanes, by the arrays
     blank : Lane
@@ -81,24 +85,28 @@ module _ (starts ends : List Float) (colors : List ℕ) (count : ℕ) (u : Unmap
     unfolding blank
     value-at k q = sym (getD-take n value k nan q) ∙ sym (ap (λ (vs : List Float). getD vs k nan) values-are) ∙ List·getD-map (λ (l : Lane). l .value) lasts k blank
 
-    color-at : (k : ℕ) → k < n → getD (scan .colors) k 0 ≡ getD lasts k blank .color
-    unfolding blank lasts
-    color-at k q = sym (getD-take n (scan .colors) k 0 q) ∙ ap (λ (cs : List ℕ). getD cs k 0) (s .colors) ∙ List·getD-map (λ (l : Lane). l .color) lasts k blank
+    module _ (l : n ≤ length value) where
+      long : length lasts ≡ n
+      long = sym (length-map lasts (λ (l : Lane). l .value)) ∙ ap length values-are ∙ length-take-le n value l
 
-    lasts-are : n ≤ length value → tabulate n (λ k. getD lasts k blank) ≡ lasts
-    lasts-are l = ap (λ (m : ℕ). tabulate m (λ k. getD lasts k blank)) (sym long) ∙ tabulate-own blank lasts
-      where
-        long : length lasts ≡ n
-        long = sym (length-map lasts (λ (l : Lane). l .value)) ∙ ap length values-are ∙ length-take-le n value l
+      color-at : (k : ℕ) → k < n → getD (scan .colors) k 0 ≡ getD lasts k blank .color
+      unfolding blank lasts
+      color-at k q =
+          let colors = map (λ (l : Lane). l .color) lasts in
+          let m : k < length colors = omega (arith, long, length-map lasts (λ (l : Lane). l .color)) in
+          ap (λ (cs : List ℕ). getD cs k 0) (s .colors) ∙ getD-padded 0 16 colors k 0 m ∙ List·getD-map (λ (l : Lane). l .color) lasts k blank
 
-    pub settled-edges : (r : List ℕ) {first last : LegendBand} → n ≤ length value → n ≤ length r → scan .finished ≡ false → 0 < count → first ≡ f 0 → last ≡ f (count - 1) →
-        Lanes 0 n r (λ k. laneEdgeColor first last u (getD value k nan) (getD (scan .colors) k 0)) → take n r ≡ laneColors bands u (take n value)
-    unfolding edged
-    settled-edges r {first} {last} l m e p a b h =
-        front 0 n (λ k. edge (getD lasts k blank)) r m lane
-        ∙ sym (map-rule edge n (λ k. getD lasts k blank)) ∙ ap (map edge) (lasts-are l) ∙ sym (by-edges false p e)
-      where
-        lane : Lanes 0 n r (λ k. edge (getD lasts k blank))
-        lane k q =
-            h k q ∙ ap₂ (λ (x y : LegendBand). laneEdgeColor x y u (getD value k nan) (getD (scan .colors) k 0)) a b
-            ∙ ap₂ (λ (v : Float) (c : ℕ). laneEdgeColor (f 0) (f (count - 1)) u v c) (value-at k q) (color-at k q)
+      lasts-are : tabulate n (λ k. getD lasts k blank) ≡ lasts
+      lasts-are = ap (λ (m : ℕ). tabulate m (λ k. getD lasts k blank)) (sym long) ∙ tabulate-own blank lasts
+
+      pub settled-edges : {r : List ℕ} {first last : LegendBand} → scan .finished ≡ false → 0 < count → first ≡ f 0 → last ≡ f (count - 1) →
+          LanesOf 0 n (λ k. laneEdgeColor first last u (getD value k nan) (getD (scan .colors) k 0)) r → r ≡ padded 0 16 (laneColors bands u (take n value))
+      unfolding edged
+      settled-edges {r} {first} {last} e p a b h =
+          lanes-agree h lane .is
+          ∙ ap (padded 0 16) (sym (map-rule edge n (λ k. getD lasts k blank)) ∙ ap (map edge) lasts-are ∙ sym (by-edges false p e))
+        where
+          lane : (k : ℕ) → k < n → laneEdgeColor first last u (getD value k nan) (getD (scan .colors) k 0) ≡ edge (getD lasts k blank)
+          lane k q =
+              ap₂ (λ (x y : LegendBand). laneEdgeColor x y u (getD value k nan) (getD (scan .colors) k 0)) a b
+              ∙ ap₂ (λ (v : Float) (c : ℕ). laneEdgeColor (f 0) (f (count - 1)) u v c) (value-at k q) (color-at k q)

@@ -6,7 +6,8 @@ use native.Mathlib.Omega.{arith}
 use lib.ListN.{length, getD, set, length-set}
 use lib.Seq.{getD-set-same, getD-set-other}
 use borrow.Author.Count.{below-none, below-more}
-use Rattle.lists.specs.Lanes.{Lanes}
+use Rattle.lists.specs.Lanes.{Lanes, LanesOf}
+use Rattle.lists.proofs.LanesOf.{lane-past, lanes-length, lanes-each}
 
 pub record Updating {A : Type 0} (z : A) (f : ℕ → A) (l : ℕ) (old : List A) (i : ℕ) (r : List A) : Type 0 where
   pub upto : i ≤ l
@@ -28,5 +29,7 @@ module _ {A : Type 0} {z : A} {f : ℕ → A} {l : ℕ} {old : List A} where
         rest = λ k q. getD-set-other r i k x z (λ (s : k ≡ i). omega arith) ∙ p .rest k (omega arith);
       }
 
-  pub updating-end : {i : ℕ} {r : List A} → Updating z f l old i r → l ≤ i → Lanes z l r f
-  updating-end p h k q = p .new k (omega arith)
+  -- of an array that held z from l on
+  pub updating-end : {g : ℕ → A} {i : ℕ} {r : List A} → LanesOf z l g old → l ≤ 16 → Updating z f l old i r → l ≤ i → LanesOf z l f r
+  updating-end {r = r} o g p h =
+      lanes-each z z l f r g (p .long ∙ lanes-length o g) (λ k q. p .new k (omega arith)) (λ k q m. p .rest k (omega (arith, p .upto)) ∙ lane-past o z k q m)

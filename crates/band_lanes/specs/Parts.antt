@@ -5,6 +5,7 @@ use mathlib.Core.Path.{_≡_}
 use mathlib.Core.List.{List, [], _∷_, map}
 use lib.Ieee.{Float}
 use lib.ListN.{take}
+use Rattle.lists.specs.Padded.{padded}
 use Rattle.bands.specs.declared.LegendBand.{LegendBand}
 use Rattle.band_lanes.specs.declared.Scan.{Scan}
 use Rattle.lane_edges.specs.Edges.{Lane}
@@ -24,7 +25,7 @@ unfoldable pub swept : List LegendBand → List Lane → Sweep
 swept [] lanes = record { finished = false; lanes = lanes }
 swept (b ∷ bs) lanes = cond (allInside (map (over b) lanes)) (record { finished = true; lanes = map (over b) lanes }) (swept bs (map (over b) lanes))
 
--- a scan has what the bands make of the chunk's values
+-- a scan has what the bands make of the chunk's values: the colours of the first n lanes, and 0 in the others
 pub record Scanned (n : ℕ) (bands : List LegendBand) (nodata : ℕ) (value : List Float) (scan : Scan) : Type 0 where
   pub finished : scan .finished ≡ swept bands (map (started nodata) (take n value)) .finished
-  pub colors : take n (scan .colors) ≡ map (λ (l : Lane). l .color) (swept bands (map (started nodata) (take n value)) .lanes)
+  pub colors : scan .colors ≡ padded 0 16 (map (λ (l : Lane). l .color) (swept bands (map (started nodata) (take n value)) .lanes))

@@ -6,8 +6,9 @@ ghost use mathlib.Core.Path.{_≡_};
 ghost use mathlib.Core.Bool.{false, cond, _||_};
 ghost use Prim.Native.Nat.{_≤_};
 ghost use lib.Ieee.{nan};
-ghost use lib.ListN.{length, getD, take};
-ghost use Rattle.lists.specs.Lanes.{Lanes};
+ghost use lib.ListN.{getD, take};
+ghost use Rattle.lists.specs.Lanes.{LanesOf};
+ghost use Rattle.lists.specs.Padded.{padded};
 ghost use Rattle.bands.specs.Band.{holds};
 ghost use Rattle.bands.specs.Packed.{packed};
 ghost use Rattle.band_lanes.specs.LaneRule.{laneColors};
@@ -31,7 +32,7 @@ pub fn color_for_numeric_value_simd(
     value: [f32; 16],
 ) -> [u32; 16]
     requires { ⌜ (lanes ≤ 16) × (count ≤ 64) ⌝ }
-    ensures { λ r. ⌜ take lanes r ≡ laneColors (packed (now (starts .entry)) (now (ends .entry)) (now (colors .entry)) count) u (take lanes value) ⌝ }
+    ensures { λ r. ⌜ r ≡ padded 0 16 (laneColors (packed (now (starts .entry)) (now (ends .entry)) (now (colors .entry)) count) u (take lanes value)) ⌝ }
 {
     if lanes == 4 {
         let scan = scanned(4, starts, ends, colors, count, u.nodata, value);
@@ -62,7 +63,7 @@ pub fn scanned(
     requires { ⌜ (lanes ≤ 16) × (count ≤ 64) ⌝ }
     ensures { λ r. ⌜ Scanned lanes (packed (now (starts .entry)) (now (ends .entry)) (now (colors .entry)) count) nodata value r ⌝ }
 {
-    let mut result = [nodata; 16];
+    let mut result = starting_colors(lanes, nodata);
     let mut inside = [false; 16];
     let mut i: usize = 0;
     while i < count {
@@ -81,7 +82,21 @@ pub fn scanned(
     }
 }
 
-// A band over the lanes that it holds. Whether each lane now lies in some band.
+// Nodata in the first lanes, and 0 in the others.
+fn starting_colors(lanes: usize, nodata: u32) -> [u32; 16]
+    requires { ⌜ lanes ≤ 16 ⌝ }
+    ensures { λ r. ⌜ LanesOf 0 lanes (λ k. nodata) r ⌝ }
+{
+    let mut result = [0u32; 16];
+    let mut i: usize = 0;
+    while i < lanes {
+        result[i] = nodata;
+        i += 1;
+    }
+    result
+}
+
+// A band over the lanes that it holds, in arrays that have 0 and false in the others. Whether each lane now lies in some band.
 fn enter(
     lanes: usize,
     band: LegendBand,
@@ -89,10 +104,9 @@ fn enter(
     words: &mut [u32; 16],
     inside: &mut [bool; 16],
 ) -> bool
-    requires { ⌜ (lanes ≤ 16) × (length (now words) ≡ 16) × (length (now inside) ≡ 16) ⌝ }
-    ensures { λ r. ⌜ (length (now (words .exit)) ≡ 16) × (length (now (inside .exit)) ≡ 16) ⌝ }
-    ensures { λ r. ⌜ Lanes 0 lanes (now (words .exit)) (λ k. cond (holds band (getD (now (value .entry)) k nan)) (band .color) (getD (now (words .entry)) k 0)) ⌝ }
-    ensures { λ r. ⌜ Lanes false lanes (now (inside .exit)) (λ k. getD (now (inside .entry)) k false || holds band (getD (now (value .entry)) k nan)) ⌝ }
+    requires { ⌜ (lanes ≤ 16) × LanesOf 0 lanes (λ k. getD (now words) k 0) (now words) × LanesOf false lanes (λ k. getD (now inside) k false) (now inside) ⌝ }
+    ensures { λ r. ⌜ LanesOf 0 lanes (λ k. cond (holds band (getD (now (value .entry)) k nan)) (band .color) (getD (now (words .entry)) k 0)) (now (words .exit)) ⌝ }
+    ensures { λ r. ⌜ LanesOf false lanes (λ k. getD (now (inside .entry)) k false || holds band (getD (now (value .entry)) k nan)) (now (inside .exit)) ⌝ }
     ensures { λ r. ⌜ r ≡ allBelow lanes (λ k. getD (now (inside .entry)) k false || holds band (getD (now (value .entry)) k nan)) ⌝ }
 {
     let mut all = true;
@@ -120,7 +134,7 @@ pub fn settled(
     scan: Scan,
 ) -> [u32; 16]
     requires { ⌜ (lanes ≤ 16) × (count ≤ 64) × Scanned lanes (packed (now starts) (now ends) (now colors) count) (u .nodata) value scan ⌝ }
-    ensures { λ r. ⌜ take lanes r ≡ laneColors (packed (now (starts .entry)) (now (ends .entry)) (now (colors .entry)) count) u (take lanes value) ⌝ }
+    ensures { λ r. ⌜ r ≡ padded 0 16 (laneColors (packed (now (starts .entry)) (now (ends .entry)) (now (colors .entry)) count) u (take lanes value)) ⌝ }
 {
     let result = scan.colors;
     if scan.finished {

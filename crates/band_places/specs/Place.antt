@@ -4,7 +4,7 @@ use mathlib.Core.Bool.{Bool, cond, _&&_}
 use mathlib.Core.List.{List}
 use lib.Ieee.{Float, nan, lt, le}
 use lib.ListN.{getD}
-use Rattle.lists.specs.Lanes.{Lanes}
+use Rattle.lists.specs.Lanes.{LanesOf}
 
 -- how many of the counted starts, from the second on, are not above the sample
 unfoldable pub placeOf : (starts : List Float) (count : ℕ) → Float → ℕ
@@ -24,7 +24,7 @@ colorAt starts ends colors place v otherwise = cond (heldAt starts ends place v)
 abbrev pub InArrays : (lanes : ℕ) (places : List ℕ) → Type 0
 InArrays lanes places = (k : ℕ) → k < lanes → getD places k 0 < 64
 
--- each lane has its sample's place
+-- each of the first lanes has its sample's place, and the others 0
 pub record Placed (lanes : ℕ) (starts : List Float) (count : ℕ) (value : List Float) (places : List ℕ) : Type 0 where
-  pub counted : Lanes 0 lanes places (λ k. placeOf starts count (getD value k nan))
+  pub counted : LanesOf 0 lanes (λ k. placeOf starts count (getD value k nan)) places
   pub inArrays : InArrays lanes places

@@ -5,7 +5,7 @@ ghost use mathlib.Core.Bool.{cond};
 ghost use Prim.Native.Nat.{_+_, _≤_};
 ghost use lib.Ieee.{nan, le};
 ghost use lib.ListN.{getD};
-ghost use Rattle.lists.specs.Lanes.{Lanes};
+ghost use Rattle.lists.specs.Lanes.{LanesOf};
 ghost use Rattle.band_places.specs.Apart.{apart};
 ghost use Rattle.band_places.specs.Place.{InArrays, Placed};
 
@@ -44,7 +44,7 @@ pub fn places_of(lanes: usize, starts: &[f32; 64], count: usize, value: [f32; 16
 // Each lane's place moved on where a start is not above its sample.
 fn moved(lanes: usize, start: f32, value: [f32; 16], places: [u32; 16]) -> [u32; 16]
     requires { ⌜ (lanes ≤ 16) × InArrays lanes places ⌝ }
-    ensures { λ r. ⌜ Lanes 0 lanes r (λ k. getD places k 0 + cond (le start (getD value k nan)) 1 0) ⌝ }
+    ensures { λ r. ⌜ LanesOf 0 lanes (λ k. getD places k 0 + cond (le start (getD value k nan)) 1 0) r ⌝ }
 {
     let mut result = [0u32; 16];
     let mut i: usize = 0;

@@ -12,9 +12,11 @@ use lib.Dec.{T, not-T, ltb, ltb→lt}
 use lib.Ieee.{Float, nan}
 use lib.Ieee.Fits.{and-l, and-r}
 use lib.ListN.{length, getD, take, drop, replicate, getD-replicate}
-use Rattle.lists.specs.Lanes.{Lanes}
+use Rattle.lists.specs.Lanes.{LanesOf}
+use Rattle.lists.specs.Padded.{padded}
 use Rattle.lists.specs.Tabulate.{tabulate}
 use Rattle.lists.proofs.Numbers.{lt-or-le}
+use Rattle.lists.proofs.LanesOf.{lane-at, lanes-agree}
 use Rattle.bands.specs.declared.LegendBand.{LegendBand}
 use Rattle.lane_edges.specs.Edges.{Lane}
 use Rattle.band_lanes.specs.LaneRule.{started, over, allInside}
@@ -174,21 +176,26 @@ module _ (starts ends : List Float) (colors : List ℕ) (count nodata n : ℕ) (
   swept-is p l = ap (swept bands) (chunk-is l) ∙ sweep count 0 (omega arith) (none-inside p)
 
   -- ---- THE LAW, by what `places_of`, `colors_at` and `all_held` ensure
-  pub scan-at-places : {places words : List ℕ} {all : Bool} → 0 < n → n ≤ 16 → n ≤ length value → n ≤ length words → Placed n starts count value places →
-      Lanes 0 n words (λ k. colorAt starts ends colors (getD places k 0) (getD value k nan) (getD (replicate 16 nodata) k 0)) →
+  pub scan-at-places : {places words : List ℕ} {all : Bool} → 0 < n → n ≤ 16 → n ≤ length value → Placed n starts count value places →
+      LanesOf 0 n (λ k. colorAt starts ends colors (getD places k 0) (getD value k nan) (getD (replicate 16 nodata) k 0)) words →
       all ≡ allBelow n (λ k. heldAt starts ends (getD places k 0) (getD value k nan)) →
       Scanned n bands nodata value (record { colors = words; finished = all })
   unfolding place
-  scan-at-places {places} {words} {all} p g l m h w a = record { finished = finishes ∙ ap (λ (s : Sweep). s .finished) (sym (swept-is p l)); colors = colored ∙ ap (λ (s : Sweep). map (λ (l : Lane). l .color) (s .lanes)) (sym (swept-is p l)) }
+  scan-at-places {places} {words} {all} p g l h w a =
+      record {
+        finished = finishes ∙ ap (λ (s : Sweep). s .finished) (sym (swept-is p l));
+        colors = colored ∙ ap (λ (s : Sweep). padded 0 16 (map (λ (l : Lane). l .color) (s .lanes))) (sym (swept-is p l));
+      }
     where
       finishes : all ≡ allBelow n held
-      finishes = a ∙ below-same n (λ k. heldAt starts ends (getD places k 0) (v k)) held (λ k q. ap (λ (j : ℕ). heldAt starts ends j (v k)) (h .counted k q))
+      finishes =
+          a ∙ below-same n (λ k. heldAt starts ends (getD places k 0) (v k)) held
+          (λ k q. ap (λ (j : ℕ). heldAt starts ends j (v k)) (lane-at (h .counted) 0 k q))
 
-      word : (k : ℕ) → k < n → getD words k 0 ≡ after count k .color
+      word : (k : ℕ) → k < n → colorAt starts ends colors (getD places k 0) (v k) (getD (replicate 16 nodata) k 0) ≡ after count k .color
       word k q =
-          w k q
-          ∙ ap₂ (λ (j c : ℕ). colorAt starts ends colors j (v k) c) (h .counted k q) (getD-replicate 16 k nodata 0 (omega arith))
+          ap₂ (λ (j c : ℕ). colorAt starts ends colors j (v k) c) (lane-at (h .counted) 0 k q) (getD-replicate 16 k nodata 0 (omega arith))
           ∙ ap (λ (t : Bool). cond t (getD colors (place k) 0) nodata) (sym (last-inside k))
 
-      colored : take n words ≡ map (λ (l : Lane). l .color) (lanes count)
-      colored = front 0 n (λ k. after count k .color) words m word ∙ sym (map-rule (λ (l : Lane). l .color) n (after count))
+      colored : words ≡ padded 0 16 (map (λ (l : Lane). l .color) (lanes count))
+      colored = lanes-agree w word .is ∙ ap (padded 0 16) (sym (map-rule (λ (l : Lane). l .color) n (after count)))

@@ -6,7 +6,7 @@ ghost use mathlib.Core.Bool.{true, cond};
 ghost use Prim.Native.Nat.{_≤_};
 ghost use lib.Ieee.{nan};
 ghost use lib.ListN.{getD};
-ghost use Rattle.lists.specs.Lanes.{Lanes};
+ghost use Rattle.lists.specs.Lanes.{LanesOf};
 ghost use Rattle.bands.specs.Packed.{packed};
 ghost use Rattle.bands.specs.PlainRule.{plainColor};
 ghost use Rattle.band_lanes.specs.Parts.{allBelow};
@@ -23,7 +23,7 @@ pub fn colors_for_numeric_values(
     value: [f32; 16],
 ) -> [u32; 16]
     requires { ⌜ (count ≤ 64) × (apart (now starts) (now ends) count ≡ true) ⌝ }
-    ensures { λ r. ⌜ Lanes 0 16 r (λ k. plainColor (packed (now (starts .entry)) (now (ends .entry)) (now (colors .entry)) count) u (getD value k nan)) ⌝ }
+    ensures { λ r. ⌜ LanesOf 0 16 (λ k. plainColor (packed (now (starts .entry)) (now (ends .entry)) (now (colors .entry)) count) u (getD value k nan)) r ⌝ }
 {
     if count == 0 {
         return [u.nodata; 16];
@@ -48,7 +48,7 @@ pub fn colors_at(
     otherwise: [u32; 16],
 ) -> [u32; 16]
     requires { ⌜ (lanes ≤ 16) × InArrays lanes places ⌝ }
-    ensures { λ r. ⌜ Lanes 0 lanes r (λ k. colorAt (now (starts .entry)) (now (ends .entry)) (now (colors .entry)) (getD places k 0) (getD value k nan) (getD otherwise k 0)) ⌝ }
+    ensures { λ r. ⌜ LanesOf 0 lanes (λ k. colorAt (now (starts .entry)) (now (ends .entry)) (now (colors .entry)) (getD places k 0) (getD value k nan) (getD otherwise k 0)) r ⌝ }
 {
     let mut result = [0u32; 16];
     let mut i: usize = 0;

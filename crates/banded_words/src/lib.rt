@@ -5,9 +5,11 @@ use colormapper::Exclusions;
 use colormapper::UnmappableColors;
 ghost use mathlib.Core.Path.{_≡_};
 ghost use mathlib.Core.Bool.{true};
-ghost use mathlib.Core.List.{map};
 ghost use Prim.Native.Nat.{_+_, _≤_};
-ghost use lib.ListN.{length, take};
+ghost use lib.Ieee.{nan};
+ghost use lib.ListN.{length, getD, take};
+ghost use Rattle.lists.specs.Lanes.{LanesOf};
+ghost use Rattle.lists.specs.Padded.{padded};
 ghost use Rattle.bands.specs.Packed.{packed};
 ghost use Rattle.band_places.specs.Apart.{apart};
 ghost use Rattle.painting.specs.Painted.{chunkOver};
@@ -32,7 +34,7 @@ fn words_plain(
     v: [f32; 16],
 ) -> [u32; 16]
     requires { ⌜ p .count ≤ 64 ⌝ }
-    ensures { λ d. ⌜ take 16 d ≡ map (plainSample (packed (now (starts .entry)) (now (ends .entry)) (now (colors .entry)) (p .count)) p) (take 16 v) ⌝ }
+    ensures { λ d. ⌜ LanesOf 0 16 (λ k. plainSample (packed (now (starts .entry)) (now (ends .entry)) (now (colors .entry)) (p .count)) p (getD v k nan)) d ⌝ }
 {
     let c = bands::colors_for_numeric_values(starts, ends, colors, p.count, p.unmappable, v);
     p.exclusions.masked_simd(16, v, p.unmappable.nodata, c)
@@ -46,7 +48,7 @@ fn words_searched(
     v: [f32; 16],
 ) -> [u32; 16]
     requires { ⌜ (p .count ≤ 64) × (apart (now starts) (now ends) (p .count) ≡ true) ⌝ }
-    ensures { λ d. ⌜ take 16 d ≡ map (plainSample (packed (now (starts .entry)) (now (ends .entry)) (now (colors .entry)) (p .count)) p) (take 16 v) ⌝ }
+    ensures { λ d. ⌜ LanesOf 0 16 (λ k. plainSample (packed (now (starts .entry)) (now (ends .entry)) (now (colors .entry)) (p .count)) p (getD v k nan)) d ⌝ }
 {
     let c = band_search::colors_for_numeric_values(starts, ends, colors, p.count, p.unmappable, v);
     p.exclusions.masked_simd(16, v, p.unmappable.nodata, c)
@@ -62,7 +64,7 @@ pub fn words(
     v: [f32; 16],
 ) -> [u32; 16]
     requires { ⌜ (p .count ≤ 64) × (search ≡ true → apart (now starts) (now ends) (p .count) ≡ true) ⌝ }
-    ensures { λ d. ⌜ take 16 d ≡ map (plainSample (packed (now (starts .entry)) (now (ends .entry)) (now (colors .entry)) (p .count)) p) (take 16 v) ⌝ }
+    ensures { λ d. ⌜ LanesOf 0 16 (λ k. plainSample (packed (now (starts .entry)) (now (ends .entry)) (now (colors .entry)) (p .count)) p (getD v k nan)) d ⌝ }
 {
     if search {
         return words_searched(starts, ends, colors, p, v);
@@ -80,7 +82,7 @@ fn words4(
     v: [f32; 16],
 ) -> [u32; 16]
     requires { ⌜ p .count ≤ 64 ⌝ }
-    ensures { λ d. ⌜ take 4 d ≡ laneChunk (packed (now (starts .entry)) (now (ends .entry)) (now (colors .entry)) (p .count)) p (take 4 v) ⌝ }
+    ensures { λ d. ⌜ d ≡ padded 0 16 (laneChunk (packed (now (starts .entry)) (now (ends .entry)) (now (colors .entry)) (p .count)) p (take 4 v)) ⌝ }
 {
     let scan = band_lanes::scanned(4, starts, ends, colors, p.count, p.unmappable.nodata, v);
     let c = band_lanes::settled(4, starts, ends, colors, p.count, p.unmappable, v, scan);
@@ -95,7 +97,7 @@ fn words8(
     v: [f32; 16],
 ) -> [u32; 16]
     requires { ⌜ p .count ≤ 64 ⌝ }
-    ensures { λ d. ⌜ take 8 d ≡ laneChunk (packed (now (starts .entry)) (now (ends .entry)) (now (colors .entry)) (p .count)) p (take 8 v) ⌝ }
+    ensures { λ d. ⌜ d ≡ padded 0 16 (laneChunk (packed (now (starts .entry)) (now (ends .entry)) (now (colors .entry)) (p .count)) p (take 8 v)) ⌝ }
 {
     let scan = band_lanes::scanned(8, starts, ends, colors, p.count, p.unmappable.nodata, v);
     let c = band_lanes::settled(8, starts, ends, colors, p.count, p.unmappable, v, scan);
@@ -110,7 +112,7 @@ fn words16(
     v: [f32; 16],
 ) -> [u32; 16]
     requires { ⌜ p .count ≤ 64 ⌝ }
-    ensures { λ d. ⌜ take 16 d ≡ laneChunk (packed (now (starts .entry)) (now (ends .entry)) (now (colors .entry)) (p .count)) p (take 16 v) ⌝ }
+    ensures { λ d. ⌜ d ≡ padded 0 16 (laneChunk (packed (now (starts .entry)) (now (ends .entry)) (now (colors .entry)) (p .count)) p (take 16 v)) ⌝ }
 {
     let scan = band_lanes::scanned(16, starts, ends, colors, p.count, p.unmappable.nodata, v);
     let c = band_lanes::settled(16, starts, ends, colors, p.count, p.unmappable, v, scan);
@@ -127,7 +129,7 @@ fn words4_searched(
     v: [f32; 16],
 ) -> [u32; 16]
     requires { ⌜ (p .count ≤ 64) × Searchable (now starts) (now ends) (p .count) ⌝ }
-    ensures { λ d. ⌜ take 4 d ≡ laneChunk (packed (now (starts .entry)) (now (ends .entry)) (now (colors .entry)) (p .count)) p (take 4 v) ⌝ }
+    ensures { λ d. ⌜ d ≡ padded 0 16 (laneChunk (packed (now (starts .entry)) (now (ends .entry)) (now (colors .entry)) (p .count)) p (take 4 v)) ⌝ }
 {
     let places = band_places::places_of(4, starts, p.count, v);
     let unheld = [p.unmappable.nodata; 16];
@@ -149,7 +151,7 @@ fn words8_searched(
     v: [f32; 16],
 ) -> [u32; 16]
     requires { ⌜ (p .count ≤ 64) × Searchable (now starts) (now ends) (p .count) ⌝ }
-    ensures { λ d. ⌜ take 8 d ≡ laneChunk (packed (now (starts .entry)) (now (ends .entry)) (now (colors .entry)) (p .count)) p (take 8 v) ⌝ }
+    ensures { λ d. ⌜ d ≡ padded 0 16 (laneChunk (packed (now (starts .entry)) (now (ends .entry)) (now (colors .entry)) (p .count)) p (take 8 v)) ⌝ }
 {
     let places = band_places::places_of(8, starts, p.count, v);
     let unheld = [p.unmappable.nodata; 16];
@@ -171,7 +173,7 @@ fn words16_searched(
     v: [f32; 16],
 ) -> [u32; 16]
     requires { ⌜ (p .count ≤ 64) × Searchable (now starts) (now ends) (p .count) ⌝ }
-    ensures { λ d. ⌜ take 16 d ≡ laneChunk (packed (now (starts .entry)) (now (ends .entry)) (now (colors .entry)) (p .count)) p (take 16 v) ⌝ }
+    ensures { λ d. ⌜ d ≡ padded 0 16 (laneChunk (packed (now (starts .entry)) (now (ends .entry)) (now (colors .entry)) (p .count)) p (take 16 v)) ⌝ }
 {
     let places = band_places::places_of(16, starts, p.count, v);
     let unheld = [p.unmappable.nodata; 16];

@@ -1,2 +1,3 @@
 pub mod Excluding
 pub mod Tolerance
+pub mod MaskedLanes

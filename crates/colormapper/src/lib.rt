@@ -6,7 +6,7 @@ ghost use Prim.Native.Nat.{_≤_};
 ghost use lib.Ieee.{nan};
 ghost use lib.ListN.{getD};
 ghost use Rattle.floats.specs.RampIndex.{nought};
-ghost use Rattle.lists.specs.Lanes.{Lanes};
+ghost use Rattle.lists.specs.Lanes.{LanesOf};
 ghost use Rattle.colormapper.specs.Settings.{orElse, unmappableColors, noSettings};
 ghost use Rattle.colormapper.specs.Unmappable.{unmappable, excluded, valueOrNan, exclusionsOf};
 
@@ -129,7 +129,7 @@ impl Exclusions {
         color: [u32; 16],
     ) -> [u32; 16]
         requires { ⌜ lanes ≤ 16 ⌝ }
-        ensures { λ r. ⌜ Lanes 0 lanes r (λ k. cond (excluded self (getD value k nan)) nodata (getD color k 0)) ⌝ }
+        ensures { λ r. ⌜ LanesOf 0 lanes (λ k. cond (excluded self (getD value k nan)) nodata (getD color k 0)) r ⌝ }
     {
         let mut result = [0u32; 16];
         let mut i: usize = 0;

@@ -5,7 +5,7 @@ ghost use mathlib.Core.Path.{_≡_};
 ghost use Prim.Native.Nat.{_≤_};
 ghost use lib.Ieee.{nan};
 ghost use lib.ListN.{getD};
-ghost use Rattle.lists.specs.Lanes.{Lanes};
+ghost use Rattle.lists.specs.Lanes.{LanesOf};
 ghost use Rattle.lane_edges.specs.Edges.{laneEdgeColor};
 
 // The colour of a lane whose chunk no band finished.
@@ -33,7 +33,7 @@ pub fn lane_edge_colors(
     color: [u32; 16],
 ) -> [u32; 16]
     requires { ⌜ lanes ≤ 16 ⌝ }
-    ensures { λ r. ⌜ Lanes 0 lanes r (λ k. laneEdgeColor first last u (getD value k nan) (getD color k 0)) ⌝ }
+    ensures { λ r. ⌜ LanesOf 0 lanes (λ k. laneEdgeColor first last u (getD value k nan) (getD color k 0)) r ⌝ }
 {
     let mut result = [0u32; 16];
     let mut i: usize = 0;

@@ -5,7 +5,8 @@ ghost use mathlib.Core.Bool.{cond};
 ghost use Prim.Native.Nat.{_≤_};
 ghost use lib.Ieee.{nan};
 ghost use lib.ListN.{getD};
-ghost use Rattle.lists.specs.Lanes.{Lanes};
+ghost use Rattle.floats.specs.RampIndex.{nought};
+ghost use Rattle.lists.specs.Lanes.{LanesOf};
 ghost use Rattle.interpolate.specs.Fraction.{plainFraction};
 ghost use Rattle.linear_rule.specs.Rule.{byRange, plainColor, laneColor};
 
@@ -37,7 +38,7 @@ pub fn colors_for_numeric_values(
     u: UnmappableColors,
     value: [f32; 16],
 ) -> [u32; 16]
-    ensures { λ r. ⌜ Lanes 0 16 r (λ k. plainColor (now (cmap .entry)) start end u (getD value k nan)) ⌝ }
+    ensures { λ r. ⌜ LanesOf 0 16 (λ k. plainColor (now (cmap .entry)) start end u (getD value k nan)) r ⌝ }
 {
     let fraction = fractions(start, end, value);
     let color = lookup::get_colors(cmap, fraction);
@@ -46,7 +47,7 @@ pub fn colors_for_numeric_values(
 
 // The plain fractions of sixteen samples: the lanes', once the start is known not to be above the end.
 fn fractions(start: f32, end: f32, value: [f32; 16]) -> [f32; 16]
-    ensures { λ r. ⌜ Lanes nan 16 r (λ k. plainFraction start end (getD value k nan)) ⌝ }
+    ensures { λ r. ⌜ LanesOf nought 16 (λ k. plainFraction start end (getD value k nan)) r ⌝ }
 {
     if end < start {
         return [0.0f32; 16];
@@ -65,7 +66,7 @@ pub fn color_for_numeric_value_simd4(
     u: UnmappableColors,
     value: [f32; 16],
 ) -> [u32; 16]
-    ensures { λ r. ⌜ Lanes 0 4 r (λ k. laneColor (now (cmap .entry)) start end u (getD value k nan)) ⌝ }
+    ensures { λ r. ⌜ LanesOf 0 4 (λ k. laneColor (now (cmap .entry)) start end u (getD value k nan)) r ⌝ }
 {
     let fraction = interpolate::linear_map_to_float_simd(4, value, start, end);
     let color = lookup::get_color_simd(4, cmap, fraction);
@@ -79,7 +80,7 @@ pub fn color_for_numeric_value_simd8(
     u: UnmappableColors,
     value: [f32; 16],
 ) -> [u32; 16]
-    ensures { λ r. ⌜ Lanes 0 8 r (λ k. laneColor (now (cmap .entry)) start end u (getD value k nan)) ⌝ }
+    ensures { λ r. ⌜ LanesOf 0 8 (λ k. laneColor (now (cmap .entry)) start end u (getD value k nan)) r ⌝ }
 {
     let fraction = interpolate::linear_map_to_float_simd(8, value, start, end);
     let color = lookup::get_color_simd(8, cmap, fraction);
@@ -93,7 +94,7 @@ pub fn color_for_numeric_value_simd16(
     u: UnmappableColors,
     value: [f32; 16],
 ) -> [u32; 16]
-    ensures { λ r. ⌜ Lanes 0 16 r (λ k. laneColor (now (cmap .entry)) start end u (getD value k nan)) ⌝ }
+    ensures { λ r. ⌜ LanesOf 0 16 (λ k. laneColor (now (cmap .entry)) start end u (getD value k nan)) r ⌝ }
 {
     let fraction = interpolate::linear_map_to_float_simd(16, value, start, end);
     let color = lookup::get_color_simd(16, cmap, fraction);
@@ -112,7 +113,7 @@ fn in_ranges(
     color: [u32; 16],
 ) -> [u32; 16]
     requires { ⌜ lanes ≤ 16 ⌝ }
-    ensures { λ r. ⌜ Lanes 0 lanes r (λ k. byRange start end (getD value k nan) (u .low) (u .high) (getD color k 0)) ⌝ }
+    ensures { λ r. ⌜ LanesOf 0 lanes (λ k. byRange start end (getD value k nan) (u .low) (u .high) (getD color k 0)) r ⌝ }
 {
     let mut result = [0u32; 16];
     let mut i: usize = 0;

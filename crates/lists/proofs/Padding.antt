@@ -6,8 +6,8 @@ use mathlib.Core.Logic.{inl, inr}
 use native.Mathlib.Nat.{le-antisymm}
 use native.Mathlib.Numerals.{add-one}
 use native.Mathlib.Omega.{arith}
-use lib.ListN.{length, getD, take, set, replicate, length-append, length-replicate, getD-replicate, List·getD-append, List·getD-eq-default}
-use lib.Seq.{set-at, take-append-seam, getD-append-add}
+use lib.ListN.{length, getD, take, drop, set, replicate, length-append, length-drop, length-replicate, getD-replicate, List·getD-append, List·getD-eq-default}
+use lib.Seq.{set-at, take-append-seam, getD-append-add, length-take-le, getD-take, getD-drop}
 use Rattle.lists.proofs.Numbers.{lt-or-le}
 use Rattle.lists.specs.Tabulate.{tabulate}
 use Rattle.lists.specs.Padded.{padded}
@@ -29,6 +29,14 @@ module _ {A : Type 0} (z : A) (n : ℕ) where
   pub take-padded : (xs : List A) → take (length xs) (padded z n xs) ≡ xs
   unfolding padded
   take-padded xs = take-append-seam xs (replicate (n - length xs) z)
+
+  -- the list again, from the first places of an array that holds it
+  pub padded-front : (xs : List A) {r : List A} {l : ℕ} → r ≡ padded z n xs → length xs ≡ l → take l r ≡ xs
+  padded-front xs {r} e h = ap (λ (m : ℕ). take m r) (sym h) ∙ ap (take (length xs)) e ∙ take-padded xs
+
+  -- the same of a part of a list
+  pub padded-part : (xs : List A) (base l : ℕ) {r : List A} → r ≡ padded z n (take l (drop base xs)) → base + l ≤ length xs → take l r ≡ take l (drop base xs)
+  padded-part xs base l e h = padded-front (take l (drop base xs)) e (length-take-le l (drop base xs) (omega (arith, length-drop base xs)))
 
   -- within the list its entries, and past its end z
   pub getD-padded : (xs : List A) (k : ℕ) (y : A) → k < length xs → getD (padded z n xs) k y ≡ getD xs k y
@@ -52,12 +60,12 @@ module _ {A : Type 0} (z : A) (n : ℕ) where
       ∙ sym (append-assoc xs (x ∷ []) (replicate (n - length (xs ++ (x ∷ []))) z) ∙ ap (λ (j : ℕ). xs ++ x ∷ replicate j z) m)
 
   -- an entry past the list's end
-  rest : (xs : List A) (k : ℕ) → length xs ≤ k → k < n → getD (padded z n xs) k z ≡ z
+  pub getD-past : (xs : List A) (k : ℕ) (y : A) → length xs ≤ k → k < n → getD (padded z n xs) k y ≡ z
   unfolding padded
-  rest xs k h g =
+  getD-past xs k y h g =
       let e : k ≡ length xs + (k - length xs) = omega arith in
-      ap (λ (j : ℕ). getD (xs ++ replicate (n - length xs) z) j z) e
-      ∙ getD-append-add xs (replicate (n - length xs) z) (k - length xs) z ∙ getD-replicate (n - length xs) (k - length xs) z z (omega arith)
+      ap (λ (j : ℕ). getD (xs ++ replicate (n - length xs) z) j y) e
+      ∙ getD-append-add xs (replicate (n - length xs) z) (k - length xs) y ∙ getD-replicate (n - length xs) (k - length xs) z y (omega arith)
 
 -- one entry more by the rule
 next : {A : Type 0} (n : ℕ) (f : ℕ → A) → tabulate (suc n) f ≡ tabulate n f ++ (f n ∷ [])
@@ -73,7 +81,7 @@ pub tabulate-padded : {A : Type 0} (z : A) (n : ℕ) (xs : List A) → length xs
 tabulate-padded z n xs h =
     sym
     (tabulated z n (λ k. getD xs k z) (padded z n xs) (length-padded z n xs h)
-    (λ k q. elim (lt-or-le k (length xs)) [ inl l ↦ getD-padded z n xs k z l | inr l ↦ rest z n xs k l q ∙ sym (List·getD-eq-default xs z l) ]))
+    (λ k q. elim (lt-or-le k (length xs)) [ inl l ↦ getD-padded z n xs k z l | inr l ↦ getD-past z n xs k z l q ∙ sym (List·getD-eq-default xs z l) ]))
 
 -- ---- a loop that stores f k in place k of an array of n, for each k below l, and leaves z in the others: its invariant at i, the first turn, each turn and the end
 pub record Storing {A : Type 0} (z : A) (f : ℕ → A) (n l i : ℕ) (r : List A) : Type 0 where
@@ -96,3 +104,12 @@ module _ {A : Type 0} {z : A} {f : ℕ → A} {n l : ℕ} where
 
   pub storing-end : {i : ℕ} {r : List A} → Storing z f n l i r → l ≤ i → r ≡ padded z n (tabulate l f)
   storing-end s h = s .is ∙ ap (λ (i : ℕ). padded z n (tabulate i f)) (le-antisymm (s .upto) h)
+
+-- a loop that stores a part of a list
+pub storing-part : {A : Type 0} {z : A} {n l i : ℕ} {r : List A} (y : A) (xs : List A) (base : ℕ)
+    → Storing z (λ k. getD xs (base + k) y) n l i r → l ≤ i → base + l ≤ length xs → r ≡ padded z n (take l (drop base xs))
+storing-part {A} {z} {n} {l} y xs base s h g =
+    let part = take l (drop base xs) in
+    let e : length part ≡ l = length-take-le l (drop base xs) (omega (arith, length-drop base xs)) in
+    let each : (k : ℕ) → k < l → getD part k y ≡ getD xs (base + k) y = λ k q. getD-take l (drop base xs) k y q ∙ getD-drop base xs k y in
+    storing-end s h ∙ ap (padded z n) (sym (tabulated y l (λ k. getD xs (base + k) y) part e each))

@@ -5,7 +5,7 @@ ghost use Prim.Native.Nat.{_≤_, _<_};
 ghost use lib.Ieee.{nan};
 ghost use lib.ListN.{getD};
 ghost use Rattle.floats.specs.RampIndex.{inUnit, laneIndex};
-ghost use Rattle.lists.specs.Lanes.{Lanes};
+ghost use Rattle.lists.specs.Lanes.{LanesOf};
 ghost use Rattle.lookup.specs.Entries.{plainEntry, laneEntry, entryColor, kept};
 
 // What a fraction is looked up as.
@@ -50,7 +50,7 @@ pub fn get_color(cmap: &[u32; 256], fraction: f32) -> u32
 // is not vectorised. The lane count is a literal of the caller's.
 pub fn get_color_simd(lanes: usize, cmap: &[u32; 256], fraction: [f32; 16]) -> [u32; 16]
     requires { ⌜ lanes ≤ 16 ⌝ }
-    ensures { λ r. ⌜ Lanes 0 lanes r (λ k. entryColor (now (cmap .entry)) (laneEntry (getD fraction k nan))) ⌝ }
+    ensures { λ r. ⌜ LanesOf 0 lanes (λ k. entryColor (now (cmap .entry)) (laneEntry (getD fraction k nan))) r ⌝ }
 {
     let gathered = gather(lanes, cmap, fraction);
     mappable(lanes, fraction, gathered)
@@ -59,7 +59,7 @@ pub fn get_color_simd(lanes: usize, cmap: &[u32; 256], fraction: [f32; 16]) -> [
 // Each lane's entry, that of 0 for a fraction outside.
 fn gather(lanes: usize, cmap: &[u32; 256], fraction: [f32; 16]) -> [u32; 16]
     requires { ⌜ lanes ≤ 16 ⌝ }
-    ensures { λ r. ⌜ Lanes 0 lanes r (λ k. getD (now (cmap .entry)) (laneIndex (kept (getD fraction k nan))) 0) ⌝ }
+    ensures { λ r. ⌜ LanesOf 0 lanes (λ k. getD (now (cmap .entry)) (laneIndex (kept (getD fraction k nan))) 0) r ⌝ }
 {
     let mut result = [0u32; 16];
     let mut i: usize = 0;
@@ -73,7 +73,7 @@ fn gather(lanes: usize, cmap: &[u32; 256], fraction: [f32; 16]) -> [u32; 16]
 
 // The colours of sixteen fractions by the plain rule, in the same way.
 pub fn get_colors(cmap: &[u32; 256], fraction: [f32; 16]) -> [u32; 16]
-    ensures { λ r. ⌜ Lanes 0 16 r (λ k. entryColor (now (cmap .entry)) (plainEntry (getD fraction k nan))) ⌝ }
+    ensures { λ r. ⌜ LanesOf 0 16 (λ k. entryColor (now (cmap .entry)) (plainEntry (getD fraction k nan))) r ⌝ }
 {
     let mut result = [0u32; 16];
     let mut i: usize = 0;
@@ -87,7 +87,7 @@ pub fn get_colors(cmap: &[u32; 256], fraction: [f32; 16]) -> [u32; 16]
 // The colours of the fractions from 0 to 1, TRANSPARENT for others.
 fn mappable(lanes: usize, fraction: [f32; 16], colors: [u32; 16]) -> [u32; 16]
     requires { ⌜ lanes ≤ 16 ⌝ }
-    ensures { λ r. ⌜ Lanes 0 lanes r (λ k. cond (inUnit (getD fraction k nan)) (getD colors k 0) 0) ⌝ }
+    ensures { λ r. ⌜ LanesOf 0 lanes (λ k. cond (inUnit (getD fraction k nan)) (getD colors k 0) 0) r ⌝ }
 {
     let mut result = [0u32; 16];
     let mut i: usize = 0;

@@ -6,7 +6,9 @@ ghost use mathlib.Core.Path.{_≡_};
 ghost use mathlib.Core.Bool.{true};
 ghost use mathlib.Core.List.{map, _++_};
 ghost use Prim.Native.Nat.{_+_, _≤_};
-ghost use lib.ListN.{length, take, drop};
+ghost use lib.Ieee.{nan};
+ghost use lib.ListN.{length, getD, take, drop};
+ghost use Rattle.lists.specs.Lanes.{LanesOf};
 ghost use Rattle.painting.specs.Painted.{plainPainted, lanePainted, chunkOver};
 ghost use Rattle.painting.specs.Contracts.{laneCount};
 ghost use Rattle.paint_by_table.specs.Rules.{tableSample, tableChunk};
@@ -21,7 +23,7 @@ pub struct CategoricPaint {
 
 fn words4(lookup: &[u32; 513], size: usize, p: CategoricPaint, v: [f32; 16]) -> [u32; 16]
     requires { ⌜ size ≤ 513 ⌝ }
-    ensures { λ d. ⌜ take 4 d ≡ tableChunk (now (lookup .entry)) size p (take 4 v) ⌝ }
+    ensures { λ d. ⌜ LanesOf 0 4 (λ k. tableSample (now (lookup .entry)) size p (getD v k nan)) d ⌝ }
 {
     let words = table_words::gather(4, lookup, size, v);
     table_words::known(4, size, p.nodata, p.exclusions, v, words)
@@ -29,7 +31,7 @@ fn words4(lookup: &[u32; 513], size: usize, p: CategoricPaint, v: [f32; 16]) -> 
 
 fn words8(lookup: &[u32; 513], size: usize, p: CategoricPaint, v: [f32; 16]) -> [u32; 16]
     requires { ⌜ size ≤ 513 ⌝ }
-    ensures { λ d. ⌜ take 8 d ≡ tableChunk (now (lookup .entry)) size p (take 8 v) ⌝ }
+    ensures { λ d. ⌜ LanesOf 0 8 (λ k. tableSample (now (lookup .entry)) size p (getD v k nan)) d ⌝ }
 {
     let words = table_words::gather(8, lookup, size, v);
     table_words::known(8, size, p.nodata, p.exclusions, v, words)
@@ -37,7 +39,7 @@ fn words8(lookup: &[u32; 513], size: usize, p: CategoricPaint, v: [f32; 16]) -> 
 
 fn words16(lookup: &[u32; 513], size: usize, p: CategoricPaint, v: [f32; 16]) -> [u32; 16]
     requires { ⌜ size ≤ 513 ⌝ }
-    ensures { λ d. ⌜ take 16 d ≡ tableChunk (now (lookup .entry)) size p (take 16 v) ⌝ }
+    ensures { λ d. ⌜ LanesOf 0 16 (λ k. tableSample (now (lookup .entry)) size p (getD v k nan)) d ⌝ }
 {
     let words = table_words::gather(16, lookup, size, v);
     table_words::known(16, size, p.nodata, p.exclusions, v, words)

@@ -5,10 +5,12 @@ ghost use mathlib.Core.Path.{_≡_};
 ghost use mathlib.Core.Bool.{true};
 ghost use mathlib.Core.List.{map, _++_};
 ghost use Prim.Native.Nat.{_+_, _≤_};
-ghost use lib.ListN.{length, take, drop};
+ghost use lib.Ieee.{nan};
+ghost use lib.ListN.{length, getD, take, drop};
+ghost use Rattle.lists.specs.Lanes.{LanesOf};
 ghost use Rattle.painting.specs.Painted.{plainPainted, lanePainted, chunkOver};
 ghost use Rattle.painting.specs.Contracts.{laneCount};
-ghost use Rattle.paint_linear.specs.Rules.{plainSample, laneChunk};
+ghost use Rattle.paint_linear.specs.Rules.{plainSample, laneSample, laneChunk};
 
 // What a linear legend is painted by, beside its ramp.
 pub struct LinearPaint {
@@ -28,28 +30,28 @@ fn sample(cmap: &[u32; 256], p: LinearPaint, value: f32) -> u32
 }
 
 fn words_plain(cmap: &[u32; 256], p: LinearPaint, v: [f32; 16]) -> [u32; 16]
-    ensures { λ d. ⌜ take 16 d ≡ map (plainSample (now (cmap .entry)) p) (take 16 v) ⌝ }
+    ensures { λ d. ⌜ LanesOf 0 16 (λ k. plainSample (now (cmap .entry)) p (getD v k nan)) d ⌝ }
 {
     let c = linear_rule::colors_for_numeric_values(cmap, p.start, p.end, p.colors, v);
     p.exclusions.masked_simd(16, v, p.colors.nodata, c)
 }
 
 fn words4(cmap: &[u32; 256], p: LinearPaint, v: [f32; 16]) -> [u32; 16]
-    ensures { λ d. ⌜ take 4 d ≡ laneChunk (now (cmap .entry)) p (take 4 v) ⌝ }
+    ensures { λ d. ⌜ LanesOf 0 4 (λ k. laneSample (now (cmap .entry)) p (getD v k nan)) d ⌝ }
 {
     let c = linear_rule::color_for_numeric_value_simd4(cmap, p.start, p.end, p.colors, v);
     p.exclusions.masked_simd(4, v, p.colors.nodata, c)
 }
 
 fn words8(cmap: &[u32; 256], p: LinearPaint, v: [f32; 16]) -> [u32; 16]
-    ensures { λ d. ⌜ take 8 d ≡ laneChunk (now (cmap .entry)) p (take 8 v) ⌝ }
+    ensures { λ d. ⌜ LanesOf 0 8 (λ k. laneSample (now (cmap .entry)) p (getD v k nan)) d ⌝ }
 {
     let c = linear_rule::color_for_numeric_value_simd8(cmap, p.start, p.end, p.colors, v);
     p.exclusions.masked_simd(8, v, p.colors.nodata, c)
 }
 
 fn words16(cmap: &[u32; 256], p: LinearPaint, v: [f32; 16]) -> [u32; 16]
-    ensures { λ d. ⌜ take 16 d ≡ laneChunk (now (cmap .entry)) p (take 16 v) ⌝ }
+    ensures { λ d. ⌜ LanesOf 0 16 (λ k. laneSample (now (cmap .entry)) p (getD v k nan)) d ⌝ }
 {
     let c = linear_rule::color_for_numeric_value_simd16(cmap, p.start, p.end, p.colors, v);
     p.exclusions.masked_simd(16, v, p.colors.nodata, c)

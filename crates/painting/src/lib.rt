@@ -5,8 +5,10 @@ use refusal::Refusal;
 ghost use mathlib.Core.Path.{_≡_};
 ghost use mathlib.Core.Bool.{true};
 ghost use Prim.Native.Nat.{_<_, _≤_, _+_};
+ghost use lib.Ieee.{binary32, ofBits};
 ghost use lib.ListN.{length, take, drop};
 ghost use lib.Seq.{paste};
+ghost use Rattle.lists.specs.Padded.{padded};
 ghost use Rattle.painting.specs.Painted.{scratchAfter};
 ghost use Rattle.painting.specs.Contracts.{lengthRefusal, plainRefusal, laneCount, laneRefusal};
 
@@ -66,10 +68,10 @@ fn length_refusal(raster: usize, out: usize) -> Answer
 
 // ---- chunks. The lane count is a literal of the caller's, who has a whole chunk at hand, or what is left of a raster.
 
-// The chunk of a raster at base, in the first lanes.
+// The chunk of a raster at base, in the first lanes, and 0 in the others.
 pub fn load(l: usize, src: &[f32], base: usize) -> [f32; 16]
     requires { ⌜ (l ≤ 16) × (base + l ≤ length (now src)) ⌝ }
-    ensures { λ v. ⌜ take l v ≡ take l (drop base (now (src .entry))) ⌝ }
+    ensures { λ v. ⌜ v ≡ padded (ofBits binary32 0) 16 (take l (drop base (now (src .entry)))) ⌝ }
 {
     let mut v = [0.0f32; 16];
     let mut i: usize = 0;

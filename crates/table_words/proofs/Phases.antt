@@ -6,7 +6,8 @@ use Prim.Native.Nat.{ℕ, _≤_}
 use lib.Ieee.{Float, nan, inf, fin, lt, eq, ne, isNan}
 use lib.ListN.{getD}
 use Rattle.floats.specs.RampIndex.{floorOf}
-use Rattle.lists.specs.Lanes.{Lanes}
+use Rattle.lists.specs.Lanes.{LanesOf}
+use Rattle.lists.proofs.LanesOf.{lane-at, lanes-agree}
 use Rattle.colormapper.specs.declared.Exclusions.{Exclusions}
 use Rattle.colormapper.specs.Unmappable.{excluded}
 use Rattle.table_words.specs.Rule.{tableColor}
@@ -31,12 +32,13 @@ masked-once e size (fin s m k) w nodata = one-choice (inTable size (fin s m k)) 
 module _ (lanes : ℕ) (lookup : List ℕ) (size nodata : ℕ) (e : Exclusions) (value : List Float) (words r : List ℕ) where
   pub in-two-phases :
       size ≤ 513
-      → Lanes 0 lanes words (λ k. getD lookup (floorOf (kept size (getD value k nan))) 0)
-      → Lanes 0 lanes r (λ k. cond (shown e size (getD value k nan)) (getD words k 0) nodata)
-      → Lanes 0 lanes r (λ k. cond (excluded e (getD value k nan)) nodata (tableColor lookup size nodata (getD value k nan)))
-  in-two-phases h gathered known k q =
+      → LanesOf 0 lanes (λ k. getD lookup (floorOf (kept size (getD value k nan))) 0) words
+      → LanesOf 0 lanes (λ k. cond (shown e size (getD value k nan)) (getD words k 0) nodata) r
+      → LanesOf 0 lanes (λ k. cond (excluded e (getD value k nan)) nodata (tableColor lookup size nodata (getD value k nan))) r
+  in-two-phases h gathered known =
+      lanes-agree known
+      (λ k q.
       let v = getD value k nan in
-      known k q
-      ∙ masked-once e size v (getD words k 0) nodata
-      ∙ ap (λ (w : ℕ). cond (excluded e v) nodata (cond (inTable size v) w nodata)) (gathered k q)
-      ∙ ap (cond (excluded e v) nodata) (chosen lookup size nodata h v)
+      masked-once e size v (getD words k 0) nodata
+      ∙ ap (λ (w : ℕ). cond (excluded e v) nodata (cond (inTable size v) w nodata)) (lane-at gathered 0 k q)
+      ∙ ap (cond (excluded e v) nodata) (chosen lookup size nodata h v))

@@ -7,8 +7,8 @@ ghost use Prim.Native.Nat.{ℕ, _≤_, _<_};
 ghost use lib.Dec.{T};
 ghost use lib.Ieee.{nan};
 ghost use lib.ListN.{getD};
-ghost use Rattle.floats.specs.RampIndex.{floorOf};
-ghost use Rattle.lists.specs.Lanes.{Lanes};
+ghost use Rattle.floats.specs.RampIndex.{nought, floorOf};
+ghost use Rattle.lists.specs.Lanes.{LanesOf};
 ghost use Rattle.table_words.specs.InTable.{limit, inTable, shown, kept, isPlace};
 
 // A chunk's samples are looked up in two phases, `gather` and then `known` (proofs/Phases.antt): a load under a branch is
@@ -17,7 +17,7 @@ ghost use Rattle.table_words.specs.InTable.{limit, inTable, shown, kept,
 // Each lane's word, the first for a sample that is not from 0 to below the size.
 pub fn gather(lanes: usize, lookup: &[u32; 513], size: usize, value: [f32; 16]) -> [u32; 16]
     requires { ⌜ (lanes ≤ 16) × (size ≤ 513) ⌝ }
-    ensures { λ r. ⌜ Lanes 0 lanes r (λ k. getD (now (lookup .entry)) (floorOf (kept size (getD value k nan))) 0) ⌝ }
+    ensures { λ r. ⌜ LanesOf 0 lanes (λ k. getD (now (lookup .entry)) (floorOf (kept size (getD value k nan))) 0) r ⌝ }
 {
     let places = clamped_lanes(lanes, size, value);
     words_at(lanes, lookup, places)
@@ -26,7 +26,7 @@ pub fn gather(lanes: usize, lookup: &[u32; 513], size: usize, value: [f32; 16]) 
 // Each lane clamped. A loop of its own: with `words_at` it would be too long for the compiler to unroll, and so not vectorised.
 fn clamped_lanes(lanes: usize, size: usize, value: [f32; 16]) -> [f32; 16]
     requires { ⌜ (lanes ≤ 16) × (size ≤ 513) ⌝ }
-    ensures { λ r. ⌜ Lanes nan lanes r (λ k. kept size (getD value k nan)) ⌝ }
+    ensures { λ r. ⌜ LanesOf nought lanes (λ k. kept size (getD value k nan)) r ⌝ }
 {
     let mut result = [0.0f32; 16];
     let mut i: usize = 0;
@@ -40,7 +40,7 @@ fn clamped_lanes(lanes: usize, size: usize, value: [f32; 16]) -> [f32; 16]
 // The words at the places' whole parts.
 fn words_at(lanes: usize, lookup: &[u32; 513], places: [f32; 16]) -> [u32; 16]
     requires { ⌜ (lanes ≤ 16) × ((k : ℕ) → k < lanes → T (isPlace (getD places k nan))) ⌝ }
-    ensures { λ r. ⌜ Lanes 0 lanes r (λ k. getD (now (lookup .entry)) (floorOf (getD places k nan)) 0) ⌝ }
+    ensures { λ r. ⌜ LanesOf 0 lanes (λ k. getD (now (lookup .entry)) (floorOf (getD places k nan)) 0) r ⌝ }
 {
     let mut result = [0u32; 16];
     let mut i: usize = 0;
@@ -62,7 +62,7 @@ pub fn known(
     words: [u32; 16],
 ) -> [u32; 16]
     requires { ⌜ (lanes ≤ 16) × (size ≤ 513) ⌝ }
-    ensures { λ r. ⌜ Lanes 0 lanes r (λ k. cond (shown exclusions size (getD value k nan)) (getD words k 0) nodata) ⌝ }
+    ensures { λ r. ⌜ LanesOf 0 lanes (λ k. cond (shown exclusions size (getD value k nan)) (getD words k 0) nodata) r ⌝ }
 {
     let absent = exclusions.nodata;
     let zero = exclusions.zero;

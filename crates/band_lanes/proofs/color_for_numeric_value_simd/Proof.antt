@@ -1,12 +1,21 @@
 -- `color_for_numeric_value_simd` meets its contract: each of its ways is the two phases, at its own lane count. Assumes nothing.
 use Prim.Native.Nat.{ℕ}
 use mathlib.Core.Path.{_≡_, sym, ap, _∙_}
+use mathlib.Core.List.{List}
 use lib.ListN.{take}
+use Rattle.lists.specs.Padded.{padded}
 use borrow.Author.Needs.{needs}
 use Rattle.bands.specs.Packed.{packed}
 use Rattle.band_lanes.specs.LaneRule.{laneColors}
 use Rattle.band_lanes.proofs.color_for_numeric_value_simd.Statement.{statement}
 use Rattle.band_lanes.proofs.color_for_numeric_value_simd.Tie as tie
+
+-- the colours at n lanes, and the same at a lane count that is known to be n
+abbrev colored : tie.Start → ℕ → List ℕ
+colored c n = let a = c .args in padded 0 16 (laneColors (packed (a .starts .now) (a .ends .now) (a .colors .now) (a .count)) (a .u) (take n (a .value)))
+
+at : (n : ℕ) (c : tie.Start) {r : List ℕ} → c .args .lanes ≡ n → r ≡ colored c n → r ≡ colored c (c .args .lanes)
+at n c e h = h ∙ sym (ap (colored c) e)
 
 scanned-requires : tie.Need-scanned-requires
 scanned-requires c κs = search needs
@@ -15,7 +24,7 @@ settled-requires : tie.Need-settled-requires
 settled-requires c κs = search needs
 
 returns : tie.Need-returns
-returns c = let a = c .before .before .before .args in let e : a .lanes ≡ 4 = c .before .before .if1 .taken in ap (λ (n : ℕ). take n (c .settled .result)) e ∙ c .settled .ensures ∙ sym (ap (λ (n : ℕ). laneColors (packed (a .starts .now) (a .ends .now) (a .colors .now) (a .count)) (a .u) (take n (a .value))) e)
+returns c = at 4 (c .before .before .before) (c .before .before .if1 .taken) (c .settled .ensures)
 
 scanned-requires-2 : tie.Need-scanned-requires-2
 scanned-requires-2 c κs = search needs
@@ -24,7 +33,7 @@ settled-requires-2 : tie.Need-settled-requires-2
 settled-requires-2 c κs = search needs
 
 returns-2 : tie.Need-returns-2
-returns-2 c = let a = c .before .before .before .before .args in let e : a .lanes ≡ 8 = c .before .before .if2 .taken in ap (λ (n : ℕ). take n (c .settled2 .result)) e ∙ c .settled2 .ensures ∙ sym (ap (λ (n : ℕ). laneColors (packed (a .starts .now) (a .ends .now) (a .colors .now) (a .count)) (a .u) (take n (a .value))) e)
+returns-2 c = at 8 (c .before .before .before .before) (c .before .before .if2 .taken) (c .settled2 .ensures)
 
 scanned-requires-3 : tie.Need-scanned-requires-3
 scanned-requires-3 c κs = search needs
@@ -33,7 +42,7 @@ settled-requires-3 : tie.Need-settled-requires-3
 settled-requires-3 c κs = search needs
 
 returns-3 : tie.Need-returns-3
-returns-3 c = let a = c .before .before .before .before .before .args in let e : a .lanes ≡ 16 = c .before .before .if3 .taken in ap (λ (n : ℕ). take n (c .settled3 .result)) e ∙ c .settled3 .ensures ∙ sym (ap (λ (n : ℕ). laneColors (packed (a .starts .now) (a .ends .now) (a .colors .now) (a .count)) (a .u) (take n (a .value))) e)
+returns-3 c = at 16 (c .before .before .before .before .before) (c .before .before .if3 .taken) (c .settled3 .ensures)
 
 scanned-requires-4 : tie.Need-scanned-requires-4
 scanned-requires-4 c κs = search needs

@@ -8,6 +8,7 @@ use lib.Ieee.{nan}
 use borrow.Author.Needs.{needs}
 use Rattle.bands.specs.Band.{holds}
 use Rattle.band_lanes.specs.Parts.{allBelow}
+use Rattle.lists.proofs.LanesOf.{lanes-length}
 use Rattle.band_lanes.proofs.Updating.{Updating, updating-start, updating-turn, updating-end}
 use Rattle.band_lanes.proofs.Chunk.{below-more}
 use Rattle.band_lanes.proofs.enter.Statement.{statement}
@@ -60,10 +61,30 @@ loop-less : tie.Need-loop-less Inv-loop μ-loop
 loop-less c = search needs
 
 loop-again : tie.Need-loop-again Inv-loop μ-loop
-loop-again c = let a = c .before .before .before .before .before .before .before .args in let l = c .before .before .before .before .before .before .loop in let entered = ap₂ (λ (x y : Bool). x || y) (l .inv .1 .rest (l .i) (omega arith)) (c .before .before .before .holds .ensures) in (updating-turn (l .inv .0) (omega arith) (omega (arith, c .before .before .before .before .before .before .before .pre .1)) (c .before .pick .ensures ∙ ap₂ (λ (t : Bool) (w : ℕ). cond t (a .band .color) w) (c .before .before .before .holds .ensures) (l .inv .0 .rest (l .i) (omega arith))), updating-turn (l .inv .1) (omega arith) (omega (arith, c .before .before .before .before .before .before .before .pre .2)) entered, ap₂ (λ (x y : Bool). x && y) (l .inv .2) entered ∙ below-more (l .i) (λ k. getD (a .inside .now) k false || holds (a .band) (getD (a .value .now) k nan)))
+loop-again c =
+    let s = c .before .before .before .before .before .before .before in
+    let a = s .args in
+    let l = c .before .before .before .before .before .before .loop in
+    let held = c .before .before .before .holds .ensures in
+    let entered = ap₂ (λ (x y : Bool). x || y) (l .inv .1 .rest (l .i) (omega arith)) held in
+    let word = c .before .pick .ensures ∙ ap₂ (λ (t : Bool) (w : ℕ). cond t (a .band .color) w) held (l .inv .0 .rest (l .i) (omega arith)) in (
+      updating-turn (l .inv .0) (omega arith) (omega (arith, lanes-length (s .pre .1) (s .pre .0))) word,
+      updating-turn (l .inv .1) (omega arith) (omega (arith, lanes-length (s .pre .2) (s .pre .0))) entered,
+      ap₂ (λ (x y : Bool). x && y) (l .inv .2) entered ∙ below-more (l .i) (λ k. getD (a .inside .now) k false || holds (a .band) (getD (a .value .now) k nan)),
+    )
 
 returns : tie.Need-returns Inv-loop μ-loop
-returns c = let a = c .before .before .args in let l = c .before .loop in let e : l .i ≡ a .lanes = omega arith in ((l .inv .0 .long ∙ c .before .before .pre .1, l .inv .1 .long ∙ c .before .before .pre .2), (updating-end (l .inv .0) (omega arith), (updating-end (l .inv .1) (omega arith), l .inv .2 ∙ ap (λ (n : ℕ). allBelow n (λ k. getD (a .inside .now) k false || holds (a .band) (getD (a .value .now) k nan))) e)))
+returns c =
+    let s = c .before .before in
+    let a = s .args in
+    let l = c .before .loop in
+    let e : l .i ≡ a .lanes = omega arith in (
+      updating-end (s .pre .1) (s .pre .0) (l .inv .0) (omega arith),
+      (
+        updating-end (s .pre .2) (s .pre .0) (l .inv .1) (omega arith),
+        l .inv .2 ∙ ap (λ (n : ℕ). allBelow n (λ k. getD (a .inside .now) k false || holds (a .band) (getD (a .value .now) k nan))) e,
+      ),
+    )
 
 pub enter-spec : {M : Type 1} → statement M
 enter-spec =

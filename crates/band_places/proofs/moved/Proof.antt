@@ -6,19 +6,20 @@ use mathlib.Core.Bool.{cond}
 use native.Mathlib.Omega.{arith}
 use lib.ListN.{getD}
 use lib.Ieee.{nan, le}
-use Rattle.lists.proofs.Filling.{Filling, filling-start, filling-turn, filling-end}
+use Rattle.lists.proofs.Padding.{Storing, storing-start, storing-turn}
+use Rattle.lists.proofs.LanesOf.{lanes-stored}
 use Rattle.band_places.proofs.Counting.{flag-is, moved-fits}
 use Rattle.band_places.proofs.moved.Statement.{statement}
 use Rattle.band_places.proofs.moved.Tie as tie
 
 abbrev Inv-loop : tie.InvT-loop
-Inv-loop lanes start value places result₀ i₀ result i = Filling 0 (λ k. getD places k 0 + cond (le start (getD value k nan)) 1 0) 16 lanes i result
+Inv-loop lanes start value places result₀ i₀ result i = Storing 0 (λ k. getD places k 0 + cond (le start (getD value k nan)) 1 0) 16 lanes i result
 
 abbrev μ-loop : tie.MeasureT-loop
 μ-loop lanes start value places result₀ i₀ result i = lanes - i
 
 loop-holds : tie.Need-loop-holds Inv-loop μ-loop
-loop-holds c = filling-start (search needs)
+loop-holds c = storing-start
 
 mul-result : tie.Need-mul-result Inv-loop μ-loop
 mul-result c = search needs
@@ -57,10 +58,11 @@ loop-again : tie.Need-loop-again Inv-loop μ-loop
 loop-again c =
     let l = c .before in
     let a = l .before .args in
-    filling-turn (l .loop .inv) (omega arith) (omega arith) (ap (λ (n : ℕ). getD (a .t4) (l .loop .i) 0 + n) (flag-is (le (a .start) (getD (a .t3) (l .loop .i) nan))))
+    storing-turn (l .loop .inv) (omega arith) (omega arith)
+    (ap (λ (n : ℕ). getD (a .t4) (l .loop .i) 0 + n) (flag-is (le (a .start) (getD (a .t3) (l .loop .i) nan))))
 
 returns : tie.Need-returns Inv-loop μ-loop
-returns c = filling-end (c .before .loop .inv) (omega arith)
+returns c = lanes-stored (c .before .loop .inv) (omega arith)
 
 pub moved-spec : {M : Type 1} → statement M
 moved-spec =

@@ -4,19 +4,21 @@ use Prim.Native.Nat.{_-_}
 use native.Mathlib.Omega.{arith}
 use lib.ListN.{getD}
 use lib.Ieee.{nan}
-use Rattle.lists.proofs.Filling.{Filling, filling-start, filling-turn, filling-end}
+use Rattle.lists.proofs.Padding.{Storing, storing-start, storing-turn}
+use Rattle.lists.proofs.LanesOf.{lanes-stored}
 use Rattle.band_places.specs.Place.{colorAt}
 use Rattle.band_search.proofs.colors_at.Statement.{statement}
 use Rattle.band_search.proofs.colors_at.Tie as tie
 
 abbrev Inv-loop : tie.InvT-loop
-Inv-loop lanes starts ends colors places value otherwise result₀ i₀ result i = Filling 0 (λ k. colorAt starts ends colors (getD places k 0) (getD value k nan) (getD otherwise k 0)) 16 lanes i result
+Inv-loop lanes starts ends colors places value otherwise result₀ i₀ result i =
+    Storing 0 (λ k. colorAt starts ends colors (getD places k 0) (getD value k nan) (getD otherwise k 0)) 16 lanes i result
 
 abbrev μ-loop : tie.MeasureT-loop
 μ-loop lanes starts ends colors places value otherwise result₀ i₀ result i = lanes - i
 
 loop-holds : tie.Need-loop-holds Inv-loop μ-loop
-loop-holds c = filling-start (search needs)
+loop-holds c = storing-start
 
 mul-place : tie.Need-mul-place Inv-loop μ-loop
 mul-place c = search needs
@@ -79,10 +81,10 @@ loop-less : tie.Need-loop-less Inv-loop μ-loop
 loop-less c = search needs
 
 loop-again : tie.Need-loop-again Inv-loop μ-loop
-loop-again c = filling-turn (c .before .before .before .before .before .loop .inv) (omega arith) (omega arith) (c .pick .ensures)
+loop-again c = storing-turn (c .before .before .before .before .before .loop .inv) (omega arith) (omega arith) (c .pick .ensures)
 
 returns : tie.Need-returns Inv-loop μ-loop
-returns c = filling-end (c .before .loop .inv) (omega arith)
+returns c = lanes-stored (c .before .loop .inv) (omega arith)
 
 pub colors-at-spec : {M : Type 1} → statement M
 colors-at-spec =

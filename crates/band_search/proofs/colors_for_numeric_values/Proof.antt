@@ -3,7 +3,8 @@ use borrow.Author.Needs.{needs}
 use mathlib.Core.Path.{sym, _∙_}
 use native.Mathlib.Omega.{arith}
 use lib.Ieee.{nan}
-use lib.ListN.{getD, getD-replicate}
+use lib.ListN.{getD, length-replicate, getD-replicate}
+use Rattle.lists.proofs.LanesOf.{lane-at, lanes-agree, lanes-all}
 use Rattle.bands.proofs.Forms.{plain-none}
 use Rattle.band_search.proofs.OneBand.{plain-at-place}
 use Rattle.band_search.proofs.colors_for_numeric_values.Statement.{statement}
@@ -12,8 +13,10 @@ use Rattle.band_search.proofs.colors_for_numeric_values.Tie as tie
 returns : tie.Need-returns
 returns c =
     let a = c .before .args in
-    λ k q. getD-replicate 16 k (a .u .nodata) 0 q
-    ∙ sym (plain-none (a .starts .now) (a .ends .now) (a .colors .now) (a .count) (a .u) (getD (a .value) k nan) (c .if1 .taken))
+    lanes-all 0 0 (length-replicate 16 (a .u .nodata))
+    (λ k q.
+    getD-replicate 16 k (a .u .nodata) 0 q
+    ∙ sym (plain-none (a .starts .now) (a .ends .now) (a .colors .now) (a .count) (a .u) (getD (a .value) k nan) (c .if1 .taken)))
 
 band-at-requires : tie.Need-band-at-requires
 band-at-requires c κs = search needs
@@ -37,9 +40,11 @@ returns-2 : tie.Need-returns-2
 returns-2 c =
     let s = c .before .before .before .before .before .before in
     let a = s .args in
-    λ k q. c .colors-at .ensures k q
-    ∙ plain-at-place (a .starts .now) (a .ends .now) (a .colors .now) (a .count) (a .u) (getD (a .value) k nan) (omega arith) (s .pre .1) (c .before .places-of .ensures .counted k q)
-    (c .before .before .before .before .band-at .ensures) (c .before .before .before .band-at2 .ensures) (c .before .before .edge-colors .ensures k q)
+    lanes-agree (c .colors-at .ensures)
+    (λ k q.
+    plain-at-place (a .starts .now) (a .ends .now) (a .colors .now) (a .count) (a .u) (getD (a .value) k nan) (omega arith) (s .pre .1)
+    (lane-at (c .before .places-of .ensures .counted) 0 k q)
+    (c .before .before .before .before .band-at .ensures) (c .before .before .before .band-at2 .ensures) (c .before .before .edge-colors .ensures k q))
 
 pub colors-for-numeric-values-spec : {M : Type 1} → statement M
 colors-for-numeric-values-spec =

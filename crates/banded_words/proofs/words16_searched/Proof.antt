@@ -17,8 +17,12 @@ all-held-requires c κs = search needs
 
 settled-requires : tie.Need-settled-requires
 settled-requires c κs =
-    let s = c .before .before .before in
-    (omega arith, s .pre .0, scan-at-places _ _ _ _ _ 16 _ (s .pre .1 .some) (s .pre .1 .far) (omega arith) (omega arith) (search needs) (search needs) (c .before .before .places-of .ensures) (c .before .colors-at .ensures) (c .all-held .ensures))
+    let s = c .before .before .before in (
+      omega arith,
+      s .pre .0,
+      scan-at-places _ _ _ _ _ 16 _ (s .pre .1 .some) (s .pre .1 .far) (omega arith) (omega arith) (search needs)
+          (c .before .before .places-of .ensures) (c .before .colors-at .ensures) (c .all-held .ensures),
+    )
 
 masked-simd-requires : tie.Need-masked-simd-requires
 masked-simd-requires c κs = search needs
@@ -26,7 +30,7 @@ masked-simd-requires c κs = search needs
 returns : tie.Need-returns
 returns c =
     let s = c .before .before .before .before .before in
-    lane-words 16 _ (s .args .p) (s .args .v) (c .before .settled .result) (c .masked-simd .result) (c .masked-simd .ensures) (c .before .settled .ensures) (search (needs, s .good .1 .1 .1 .1)) (search needs) (search needs)
+    lane-words 16 _ (s .args .p) (s .args .v) (search (needs, s .good .1 .1 .1 .1)) (omega arith) (c .masked-simd .ensures) (c .before .settled .ensures)
 
 pub words16-searched-spec : {M : Type 1} → statement M
 words16-searched-spec = tie.close (tie.spec places-of-requires colors-at-requires all-held-requires settled-requires masked-simd-requires returns)

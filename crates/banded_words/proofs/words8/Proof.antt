@@ -1,5 +1,6 @@
 -- `words8` meets its contract. Assumes nothing.
 use borrow.Author.Needs.{needs}
+use native.Mathlib.Omega.{arith}
 use Rattle.banded_words.proofs.MaskedWords.{lane-words}
 use Rattle.banded_words.proofs.words8.Statement.{statement}
 use Rattle.banded_words.proofs.words8.Tie as tie
@@ -14,7 +15,9 @@ masked-simd-requires : tie.Need-masked-simd-requires
 masked-simd-requires c κs = search needs
 
 returns : tie.Need-returns
-returns c = let a = c .before .before .before .args in lane-words 8 _ (a .p) (a .v) (c .before .settled .result) (c .masked-simd .result) (c .masked-simd .ensures) (c .before .settled .ensures) (search needs) (search needs) (search needs)
+returns c =
+    let a = c .before .before .before .args in
+    lane-words 8 _ (a .p) (a .v) (search needs) (omega arith) (c .masked-simd .ensures) (c .before .settled .ensures)
 
 pub words8-spec : {M : Type 1} → statement M
 words8-spec = tie.close (tie.spec scanned-requires settled-requires masked-simd-requires returns)

@@ -1,6 +1,9 @@
 -- `words_plain` meets its contract. Assumes nothing.
 use borrow.Author.Needs.{needs}
-use Rattle.banded_words.proofs.MaskedWords.{plain-words}
+use Rattle.lists.proofs.LanesOf.{lanes-all}
+use Rattle.colormapper.proofs.MaskedLanes.{masked-lanes}
+use Rattle.bands.specs.Packed.{packed}
+use Rattle.bands.specs.PlainRule.{plainColor}
 use Rattle.banded_words.proofs.words_plain.Statement.{statement}
 use Rattle.banded_words.proofs.words_plain.Tie as tie
 
@@ -11,7 +14,12 @@ masked-simd-requires : tie.Need-masked-simd-requires
 masked-simd-requires c κs = search needs
 
 returns : tie.Need-returns
-returns c = let a = c .before .before .args in plain-words 16 _ (a .p) (a .v) (c .before .colors-for-numeric-values .result) (c .masked-simd .result) (c .masked-simd .ensures) (c .before .colors-for-numeric-values .ensures) (search needs) (search needs)
+returns c =
+    let a = c .before .before .args in
+    let p = a .p in
+    masked-lanes (p .exclusions) (p .unmappable .nodata) (plainColor (packed (a .starts .now) (a .ends .now) (a .colors .now) (p .count)) (p .unmappable))
+    (a .v) (c .before .colors-for-numeric-values .result)
+    (lanes-all 0 0 (search needs) (c .before .colors-for-numeric-values .ensures)) (c .masked-simd .ensures)
 
 pub words-plain-spec : {M : Type 1} → statement M
 words-plain-spec = tie.close (tie.spec colors-for-numeric-values-requires masked-simd-requires returns)

@@ -1,6 +1,8 @@
 -- `words_searched` meets its contract. Assumes nothing.
 use borrow.Author.Needs.{needs}
-use Rattle.banded_words.proofs.MaskedWords.{plain-words}
+use Rattle.colormapper.proofs.MaskedLanes.{masked-lanes}
+use Rattle.bands.specs.Packed.{packed}
+use Rattle.bands.specs.PlainRule.{plainColor}
 use Rattle.banded_words.proofs.words_searched.Statement.{statement}
 use Rattle.banded_words.proofs.words_searched.Tie as tie
 
@@ -11,7 +13,12 @@ masked-simd-requires : tie.Need-masked-simd-requires
 masked-simd-requires c κs = search needs
 
 returns : tie.Need-returns
-returns c = let a = c .before .before .args in plain-words 16 _ (a .p) (a .v) (c .before .colors-for-numeric-values .result) (c .masked-simd .result) (c .masked-simd .ensures) (c .before .colors-for-numeric-values .ensures) (search needs) (search needs)
+returns c =
+    let a = c .before .before .args in
+    let p = a .p in
+    masked-lanes (p .exclusions) (p .unmappable .nodata) (plainColor (packed (a .starts .now) (a .ends .now) (a .colors .now) (p .count)) (p .unmappable))
+    (a .v) (c .before .colors-for-numeric-values .result)
+    (c .before .colors-for-numeric-values .ensures) (c .masked-simd .ensures)
 
 pub words-searched-spec : {M : Type 1} → statement M
 words-searched-spec = tie.close (tie.spec colors-for-numeric-values-requires masked-simd-requires returns)

@@ -4,19 +4,20 @@ use native.Mathlib.Omega.{arith}
 use lib.ListN.{getD}
 use lib.Ieee.{nan}
 use borrow.Author.Needs.{needs}
-use Rattle.lists.proofs.Filling.{Filling, filling-start, filling-turn, filling-end}
+use Rattle.lists.proofs.Padding.{Storing, storing-start, storing-turn}
+use Rattle.lists.proofs.LanesOf.{lanes-stored}
 use Rattle.lane_edges.specs.Edges.{laneEdgeColor}
 use Rattle.lane_edges.proofs.lane_edge_colors.Statement.{statement}
 use Rattle.lane_edges.proofs.lane_edge_colors.Tie as tie
 
 abbrev Inv-loop : tie.InvT-loop
-Inv-loop lanes first last u value color result₀ i₀ result i = Filling 0 (λ k. laneEdgeColor first last u (getD value k nan) (getD color k 0)) 16 lanes i result
+Inv-loop lanes first last u value color result₀ i₀ result i = Storing 0 (λ k. laneEdgeColor first last u (getD value k nan) (getD color k 0)) 16 lanes i result
 
 abbrev μ-loop : tie.MeasureT-loop
 μ-loop lanes first last u value color result₀ i₀ result i = lanes - i
 
 loop-holds : tie.Need-loop-holds Inv-loop μ-loop
-loop-holds c = filling-start (search needs)
+loop-holds c = storing-start
 
 mul-lane-edge-color : tie.Need-mul-lane-edge-color Inv-loop μ-loop
 mul-lane-edge-color c = search needs
@@ -46,10 +47,10 @@ loop-less : tie.Need-loop-less Inv-loop μ-loop
 loop-less c = search needs
 
 loop-again : tie.Need-loop-again Inv-loop μ-loop
-loop-again c = filling-turn (c .before .before .loop .inv) (omega arith) (omega arith) (c .lane-edge-color .ensures)
+loop-again c = storing-turn (c .before .before .loop .inv) (omega arith) (omega arith) (c .lane-edge-color .ensures)
 
 returns : tie.Need-returns Inv-loop μ-loop
-returns c = filling-end (c .before .loop .inv) (omega arith)
+returns c = lanes-stored (c .before .loop .inv) (omega arith)
 
 pub lane-edge-colors-spec : {M : Type 1} → statement M
 lane-edge-colors-spec =

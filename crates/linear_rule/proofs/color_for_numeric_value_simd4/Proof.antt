@@ -1,5 +1,8 @@
 -- `color_for_numeric_value_simd4` meets its contract, phase by phase in each lane. Assumes nothing.
+use mathlib.Core.Path.{refl}
 use borrow.Author.Needs.{needs}
+use lib.Ieee.{nan}
+use Rattle.lists.proofs.LanesOf.{lane-at, lanes-agree}
 use Rattle.linear_rule.proofs.Choosing.{lane-phases}
 use Rattle.linear_rule.proofs.color_for_numeric_value_simd4.Statement.{statement}
 use Rattle.linear_rule.proofs.color_for_numeric_value_simd4.Tie as tie
@@ -14,7 +17,10 @@ in-ranges-requires : tie.Need-in-ranges-requires
 in-ranges-requires c κs = search needs
 
 returns : tie.Need-returns
-returns c = λ k h. lane-phases _ _ _ _ _ (c .before .before .linear-map-to-float-simd .ensures k h) (c .before .get-color-simd .ensures k h) (c .in-ranges .ensures k h)
+returns c =
+    let fractions = lane-at (c .before .before .linear-map-to-float-simd .ensures) nan in
+    let colors = lane-at (c .before .get-color-simd .ensures) 0 in
+    lanes-agree (c .in-ranges .ensures) (λ k h. lane-phases _ _ _ _ _ (fractions k h) (colors k h) refl)
 
 pub color-for-numeric-value-simd4-spec : {M : Type 1} → statement M
 color-for-numeric-value-simd4-spec =

@@ -4,19 +4,21 @@ use native.Mathlib.Omega.{arith}
 use borrow.Author.Needs.{needs}
 use lib.ListN.{getD}
 use lib.Ieee.{nan}
-use Rattle.lists.proofs.Filling.{Filling, filling-start, filling-turn, filling-end}
+use Rattle.lists.proofs.Padding.{Storing, storing-start, storing-turn}
+use Rattle.lists.proofs.LanesOf.{lanes-stored}
 use Rattle.linear_rule.specs.Rule.{byRange}
 use Rattle.linear_rule.proofs.in_ranges.Statement.{statement}
 use Rattle.linear_rule.proofs.in_ranges.Tie as tie
 
 abbrev Inv-loop : tie.InvT-loop
-Inv-loop lanes start end u value color result₀ i₀ result i = Filling 0 (λ k. byRange start end (getD value k nan) (u .low) (u .high) (getD color k 0)) 16 lanes i result
+Inv-loop lanes start end u value color result₀ i₀ result i =
+    Storing 0 (λ k. byRange start end (getD value k nan) (u .low) (u .high) (getD color k 0)) 16 lanes i result
 
 abbrev μ-loop : tie.MeasureT-loop
 μ-loop lanes start end u value color result₀ i₀ result i = lanes - i
 
 loop-holds : tie.Need-loop-holds Inv-loop μ-loop
-loop-holds c = filling-start (search needs)
+loop-holds c = storing-start
 
 mul-in-range : tie.Need-mul-in-range Inv-loop μ-loop
 mul-in-range c = search needs
@@ -46,10 +48,10 @@ loop-less : tie.Need-loop-less Inv-loop μ-loop
 loop-less c = search needs
 
 loop-again : tie.Need-loop-again Inv-loop μ-loop
-loop-again c = filling-turn (c .before .before .loop .inv) (omega arith) (omega arith) (c .in-range .ensures)
+loop-again c = storing-turn (c .before .before .loop .inv) (omega arith) (omega arith) (c .in-range .ensures)
 
 returns : tie.Need-returns Inv-loop μ-loop
-returns c = filling-end (c .before .loop .inv) (omega arith)
+returns c = lanes-stored (c .before .loop .inv) (omega arith)
 
 pub in-ranges-spec : {M : Type 1} → statement M
 in-ranges-spec =

@@ -4,7 +4,8 @@ use native.Mathlib.Omega.{arith}
 use Prim.Native.Nat.{_-_}
 use mathlib.Core.Path.{ap, _∙_}
 use lib.ListN.{getD}
-use Rattle.lists.proofs.Filling.{Filling, filling-start, filling-turn, filling-end}
+use Rattle.lists.proofs.Padding.{Storing, storing-start, storing-turn}
+use Rattle.lists.proofs.LanesOf.{lanes-stored}
 use lib.Ieee.{nan}
 use Rattle.floats.specs.RampIndex.{laneIndex}
 use Rattle.lookup.specs.Entries.{kept}
@@ -12,13 +13,13 @@ use Rattle.lookup.proofs.gather.Statement.{statement}
 use Rattle.lookup.proofs.gather.Tie as tie
 
 abbrev Inv-loop : tie.InvT-loop
-Inv-loop lanes cmap fraction result₀ i₀ result i = Filling 0 (λ k. getD cmap (laneIndex (kept (getD fraction k nan))) 0) 16 lanes i result
+Inv-loop lanes cmap fraction result₀ i₀ result i = Storing 0 (λ k. getD cmap (laneIndex (kept (getD fraction k nan))) 0) 16 lanes i result
 
 abbrev μ-loop : tie.MeasureT-loop
 μ-loop lanes cmap fraction result₀ i₀ result i = lanes - i
 
 loop-holds : tie.Need-loop-holds Inv-loop μ-loop
-loop-holds c = filling-start (search needs)
+loop-holds c = storing-start
 
 mul-unit : tie.Need-mul-unit Inv-loop μ-loop
 mul-unit c = search needs
@@ -51,10 +52,13 @@ loop-less : tie.Need-loop-less Inv-loop μ-loop
 loop-less c = search needs
 
 loop-again : tie.Need-loop-again Inv-loop μ-loop
-loop-again c = filling-turn (c .before .before .before .before .loop .inv) (omega arith) (omega arith) (ap (λ k. getD (c .before .before .before .before .before .args .cmap .now) k 0) (c .before .lane-index .ensures .0 ∙ ap laneIndex (c .before .before .unit .ensures .0)))
+loop-again c =
+    let l = c .before .before .before .before in
+    let index = c .before .lane-index .ensures .0 ∙ ap laneIndex (c .before .before .unit .ensures .0) in
+    storing-turn (l .loop .inv) (omega arith) (omega arith) (ap (λ k. getD (l .before .args .cmap .now) k 0) index)
 
 returns : tie.Need-returns Inv-loop μ-loop
-returns c = filling-end (c .before .loop .inv) (omega arith)
+returns c = lanes-stored (c .before .loop .inv) (omega arith)
 
 pub gather-spec : {M : Type 1} → statement M
 gather-spec =

@@ -6,6 +6,7 @@ use Rattle.lookup.proofs.Lookups.{lane-chosen}
 use mathlib.Core.Path.{ap, _∙_}
 use lib.ListN.{getD}
 use borrow.Author.Needs.{needs}
+use Rattle.lists.proofs.LanesOf.{lane-at, lanes-agree}
 use Rattle.lookup.proofs.get_color_simd.Statement.{statement}
 use Rattle.lookup.proofs.get_color_simd.Tie as tie
 
@@ -16,7 +17,11 @@ mappable-requires : tie.Need-mappable-requires
 mappable-requires c κs = search needs
 
 returns : tie.Need-returns
-returns c = λ k h. c .mappable .ensures k h ∙ ap (λ w. cond (inUnit (getD (c .before .before .args .fraction) k nan)) w 0) (c .before .gather .ensures k h) ∙ lane-chosen (getD (c .before .before .args .fraction) k nan) (c .before .before .args .cmap .now)
+returns c =
+    let a = c .before .before .args in
+    let gathered = lane-at (c .before .gather .ensures) 0 in
+    lanes-agree (c .mappable .ensures)
+    (λ k h. ap (λ w. cond (inUnit (getD (a .fraction) k nan)) w 0) (gathered k h) ∙ lane-chosen (getD (a .fraction) k nan) (a .cmap .now))
 
 pub get-color-simd-spec : {M : Type 1} → statement M
 get-color-simd-spec = tie.close (tie.spec gather-requires mappable-requires returns)

@@ -3,20 +3,21 @@ use borrow.Author.Needs.{needs}
 use native.Mathlib.Omega.{arith}
 use Prim.Native.Nat.{_-_}
 use lib.ListN.{getD}
-use Rattle.lists.proofs.Filling.{Filling, filling-start, filling-turn, filling-end}
+use Rattle.lists.proofs.Padding.{Storing, storing-start, storing-turn}
+use Rattle.lists.proofs.LanesOf.{lanes-stored}
 use lib.Ieee.{nan}
 use Rattle.lookup.specs.Entries.{plainEntry, entryColor}
 use Rattle.lookup.proofs.get_colors.Statement.{statement}
 use Rattle.lookup.proofs.get_colors.Tie as tie
 
 abbrev Inv-loop : tie.InvT-loop
-Inv-loop cmap fraction result₀ i₀ result i = Filling 0 (λ k. entryColor cmap (plainEntry (getD fraction k nan))) 16 16 i result
+Inv-loop cmap fraction result₀ i₀ result i = Storing 0 (λ k. entryColor cmap (plainEntry (getD fraction k nan))) 16 16 i result
 
 abbrev μ-loop : tie.MeasureT-loop
 μ-loop cmap fraction result₀ i₀ result i = 16 - i
 
 loop-holds : tie.Need-loop-holds Inv-loop μ-loop
-loop-holds c = filling-start (search needs)
+loop-holds c = storing-start
 
 mul-get-color : tie.Need-mul-get-color Inv-loop μ-loop
 mul-get-color c = search needs
@@ -40,10 +41,10 @@ loop-less : tie.Need-loop-less Inv-loop μ-loop
 loop-less c = search needs
 
 loop-again : tie.Need-loop-again Inv-loop μ-loop
-loop-again c = filling-turn (c .before .before .loop .inv) (omega arith) (search needs) (c .get-color .ensures)
+loop-again c = storing-turn (c .before .before .loop .inv) (omega arith) (search needs) (c .get-color .ensures)
 
 returns : tie.Need-returns Inv-loop μ-loop
-returns c = filling-end (c .before .loop .inv) (omega arith)
+returns c = lanes-stored (c .before .loop .inv) (omega arith)
 
 pub get-colors-spec : {M : Type 1} → statement M
 get-colors-spec =

@@ -4,7 +4,8 @@ use native.Mathlib.Omega.{arith}
 use Prim.Native.Nat.{_-_}
 use mathlib.Core.Path.{_∙_}
 use lib.ListN.{getD}
-use Rattle.lists.proofs.Filling.{Filling, filling-start, filling-turn, filling-end}
+use Rattle.lists.proofs.Padding.{Storing, storing-start, storing-turn}
+use Rattle.lists.proofs.LanesOf.{lanes-stored}
 use lib.Ieee.{nan}
 use mathlib.Core.Bool.{cond}
 use Rattle.floats.specs.RampIndex.{inUnit}
@@ -12,13 +13,13 @@ use Rattle.lookup.proofs.mappable.Statement.{statement}
 use Rattle.lookup.proofs.mappable.Tie as tie
 
 abbrev Inv-loop : tie.InvT-loop
-Inv-loop lanes fraction colors result₀ i₀ result i = Filling 0 (λ k. cond (inUnit (getD fraction k nan)) (getD colors k 0) 0) 16 lanes i result
+Inv-loop lanes fraction colors result₀ i₀ result i = Storing 0 (λ k. cond (inUnit (getD fraction k nan)) (getD colors k 0) 0) 16 lanes i result
 
 abbrev μ-loop : tie.MeasureT-loop
 μ-loop lanes fraction colors result₀ i₀ result i = lanes - i
 
 loop-holds : tie.Need-loop-holds Inv-loop μ-loop
-loop-holds c = filling-start (search needs)
+loop-holds c = storing-start
 
 mul-in-unit : tie.Need-mul-in-unit Inv-loop μ-loop
 mul-in-unit c = search needs
@@ -51,10 +52,10 @@ loop-less : tie.Need-loop-less Inv-loop μ-loop
 loop-less c = search needs
 
 loop-again : tie.Need-loop-again Inv-loop μ-loop
-loop-again c = filling-turn (c .before .before .before .loop .inv) (omega arith) (omega arith) (c .pick .ensures ∙ cc (c .before .in-unit .ensures))
+loop-again c = storing-turn (c .before .before .before .loop .inv) (omega arith) (omega arith) (c .pick .ensures ∙ cc (c .before .in-unit .ensures))
 
 returns : tie.Need-returns Inv-loop μ-loop
-returns c = filling-end (c .before .loop .inv) (omega arith)
+returns c = lanes-stored (c .before .loop .inv) (omega arith)
 
 pub mappable-spec : {M : Type 1} → statement M
 mappable-spec =

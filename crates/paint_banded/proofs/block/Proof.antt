@@ -1,6 +1,13 @@
 -- `block` meets its contract. Assumes nothing.
 use mathlib.Core.Path.{refl}
+use native.Mathlib.Omega.{arith}
+use lib.Ieee.{nan}
+use Rattle.lists.proofs.LanesOf.{lane-at}
+use Rattle.lists.proofs.Padding.{padded-part}
+use Rattle.painting.proofs.Lists.{lanes-list}
 use Rattle.painting.proofs.Whole.{chunk-is}
+use Rattle.bands.specs.Packed.{packed}
+use Rattle.banded_words.specs.Rules.{plainSample}
 use borrow.Author.Needs.{needs}
 use Rattle.paint_banded.proofs.block.Statement.{statement}
 use Rattle.paint_banded.proofs.block.Tie as tie
@@ -18,7 +25,14 @@ same-length : tie.Need-same-length
 same-length c = search needs
 
 returns : tie.Need-returns
-returns c = chunk-is _ _ _ _ _ 16 (c .before .before .before .before .words .result) (c .before .before .before .before .before .load .result) refl (c .before .before .store .ensures) (c .before .before .before .before .words .ensures) (c .before .before .before .before .before .load .ensures)
+returns c =
+    let s = c .before .before .before .before .before in
+    let w = c .before .before .before .before .words in
+    let a = s .before .before .before .args in
+    let rule = plainSample (packed (a .starts .now) (a .ends .now) (a .colors .now) (a .p .count)) (a .p) in
+    let words = lanes-list nan 0 rule 16 (w .result) (s .load .result) (search needs) (search needs) (lane-at (w .ensures) 0) in
+    chunk-is _ _ _ _ _ 16 (w .result) (s .load .result) refl (c .before .before .store .ensures) words
+    (padded-part _ 16 (a .src .now) (a .base) 16 (s .load .ensures) (omega arith))
 
 pub block-spec : {M : Type 1} → statement M
 block-spec =

@@ -1,5 +1,14 @@
 -- `rest` meets its contract. Assumes nothing.
+use Prim.Native.Nat.{_-_}
+use native.Mathlib.Omega.{arith}
+use lib.ListN.{length}
+use lib.Ieee.{nan}
+use Rattle.lists.proofs.LanesOf.{lane-at}
+use Rattle.lists.proofs.Padding.{padded-part}
+use Rattle.painting.proofs.Lists.{lanes-list}
 use Rattle.painting.proofs.Whole.{rest-is, rest-none}
+use Rattle.bands.specs.Packed.{packed}
+use Rattle.banded_words.specs.Rules.{plainSample}
 use borrow.Author.Needs.{needs}
 use Rattle.paint_banded.proofs.rest.Statement.{statement}
 use Rattle.paint_banded.proofs.rest.Tie as tie
@@ -24,8 +33,14 @@ same-length c = search needs
 
 returns-2 : tie.Need-returns-2
 returns-2 c =
+    let l = c .before .before .before .before .before .load in
+    let w = c .before .before .before .before .words in
     let a = c .before .before .before .before .before .before .before .before .before .args in
-    rest-is _ (a .src .now) (a .out .now) (a .base) 16 (c .before .before .before .before .words .result) (c .before .before .before .before .before .load .result) (search needs) (search needs) (search needs) (c .before .before .store .ensures) (c .before .before .before .before .words .ensures) (c .before .before .before .before .before .load .ensures)
+    let rule = plainSample (packed (a .starts .now) (a .ends .now) (a .colors .now) (a .p .count)) (a .p) in
+    let words = lanes-list nan 0 rule 16 (w .result) (l .result) (search needs) (search needs) (lane-at (w .ensures) 0) in
+    let part = padded-part _ 16 (a .src .now) (a .base) (length (a .src .now) - a .base) (l .ensures) (omega arith) in
+    rest-is rule (a .src .now) (a .out .now) (a .base) 16 (w .result) (l .result) (omega arith) (omega arith) (omega arith) (c .before .before .store .ensures)
+    words part
 
 pub rest-spec : {M : Type 1} → statement M
 rest-spec =

@@ -1,7 +1,9 @@
 -- `block` meets its contract. Assumes nothing.
-use mathlib.Core.Path.{refl, _∙_}
-use Rattle.painting.proofs.Masking.{masked-map}
+use mathlib.Core.Path.{refl}
+use native.Mathlib.Omega.{arith}
+use Rattle.lists.proofs.Padding.{padded-part}
 use Rattle.painting.proofs.Whole.{chunk-is}
+use Rattle.paint_by_table.proofs.Tabled.{mapped}
 use borrow.Author.Needs.{needs}
 use Rattle.paint_by_table.proofs.block.Statement.{statement}
 use Rattle.paint_by_table.proofs.block.Tie as tie
@@ -19,7 +21,13 @@ same-length : tie.Need-same-length
 same-length c = search needs
 
 returns : tie.Need-returns
-returns c = chunk-is _ _ _ _ _ 16 (c .before .before .before .before .words16 .result) (c .before .before .before .before .before .load .result) refl (c .before .before .store .ensures) (c .before .before .before .before .words16 .ensures ∙ masked-map _ _ _ _) (c .before .before .before .before .before .load .ensures)
+returns c =
+    let s = c .before .before .before .before .before in
+    let w = c .before .before .before .before .words16 in
+    let a = s .before .before .before .args in
+    let words = mapped 16 (a .lookup .now) (a .size) (a .p) (s .load .result) (w .result) (search needs) (search needs) (w .ensures) in
+    chunk-is _ _ _ _ _ 16 (w .result) (s .load .result) refl (c .before .before .store .ensures) words
+    (padded-part _ 16 (a .src .now) (a .base) 16 (s .load .ensures) (omega arith))
 
 pub block-spec : {M : Type 1} → statement M
 block-spec =

@@ -1,7 +1,9 @@
 -- `chunk` meets its contract. Assumes nothing.
 use native.Mathlib.Omega.{arith}
+use Rattle.lists.proofs.Padding.{padded-part}
 use Rattle.painting.proofs.Whole.{chunk-is}
 use Rattle.painting.proofs.Refusals.{lane-sixteen}
+use Rattle.paint_by_table.proofs.Tabled.{tabled}
 use borrow.Author.Needs.{needs}
 use Rattle.paint_by_table.proofs.chunk.Statement.{statement}
 use Rattle.paint_by_table.proofs.chunk.Tie as tie
@@ -19,7 +21,13 @@ same-length : tie.Need-same-length
 same-length c = search needs
 
 returns : tie.Need-returns
-returns c = chunk-is _ _ _ _ _ 4 (c .before .before .before .before .words4 .result) (c .before .before .before .before .before .load .result) (c .before .before .before .before .before .before .if1 .taken) (c .before .before .store .ensures) (c .before .before .before .before .words4 .ensures) (c .before .before .before .before .before .load .ensures)
+returns c =
+    let s = c .before .before .before .before .before in
+    let w = c .before .before .before .before .words4 in
+    let a = s .before .before .before .before .args in
+    let words = tabled 4 (a .lookup .now) (a .size) (a .p) (s .load .result) (w .result) (search needs) (search needs) (w .ensures) in
+    chunk-is _ _ _ _ _ 4 (w .result) (s .load .result) (s .before .if1 .taken) (c .before .before .store .ensures) words
+    (padded-part _ 16 (a .src .now) (a .base) 4 (s .load .ensures) (omega arith))
 
 load-requires-2 : tie.Need-load-requires-2
 load-requires-2 c κs = search needs
@@ -34,7 +42,13 @@ same-length-2 : tie.Need-same-length-2
 same-length-2 c = search needs
 
 returns-2 : tie.Need-returns-2
-returns-2 c = chunk-is _ _ _ _ _ 8 (c .before .before .before .before .words8 .result) (c .before .before .before .before .before .load2 .result) (c .before .before .before .before .before .before .if2 .taken) (c .before .before .store2 .ensures) (c .before .before .before .before .words8 .ensures) (c .before .before .before .before .before .load2 .ensures)
+returns-2 c =
+    let s = c .before .before .before .before .before in
+    let w = c .before .before .before .before .words8 in
+    let a = s .before .before .before .before .before .args in
+    let words = tabled 8 (a .lookup .now) (a .size) (a .p) (s .load2 .result) (w .result) (search needs) (search needs) (w .ensures) in
+    chunk-is _ _ _ _ _ 8 (w .result) (s .load2 .result) (s .before .if2 .taken) (c .before .before .store2 .ensures) words
+    (padded-part _ 16 (a .src .now) (a .base) 8 (s .load2 .ensures) (omega arith))
 
 load-requires-3 : tie.Need-load-requires-3
 load-requires-3 c κs = (search needs, omega (arith, lane-sixteen (c .before .before .before .before .args .l) (c .before .before .before .before .pre .1) (c .before .if1 .left) (c .if2 .left)))
@@ -49,7 +63,15 @@ same-length-3 : tie.Need-same-length-3
 same-length-3 c = search needs
 
 returns-3 : tie.Need-returns-3
-returns-3 c = chunk-is _ _ _ _ _ 16 (c .before .before .before .before .words16 .result) (c .before .before .before .before .before .load3 .result) (lane-sixteen (c .before .before .before .before .before .before .before .before .before .before .args .l) (c .before .before .before .before .before .before .before .before .before .before .pre .1) (c .before .before .before .before .before .before .before .if1 .left) (c .before .before .before .before .before .before .if2 .left)) (c .before .before .store3 .ensures) (c .before .before .before .before .words16 .ensures) (c .before .before .before .before .before .load3 .ensures)
+returns-3 c =
+    let s = c .before .before .before .before .before in
+    let w = c .before .before .before .before .words16 in
+    let b = s .before .before .before .before .before in
+    let a = b .args in
+    let sixteen = lane-sixteen (a .l) (b .pre .1) (s .before .before .if1 .left) (s .before .if2 .left) in
+    let words = tabled 16 (a .lookup .now) (a .size) (a .p) (s .load3 .result) (w .result) (search needs) (search needs) (w .ensures) in
+    chunk-is _ _ _ _ _ 16 (w .result) (s .load3 .result) sixteen (c .before .before .store3 .ensures) words
+    (padded-part _ 16 (a .src .now) (a .base) 16 (s .load3 .ensures) (omega (arith, sixteen)))
 
 pub chunk-spec : {M : Type 1} → statement M
 chunk-spec =

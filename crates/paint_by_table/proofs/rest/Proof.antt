@@ -1,11 +1,11 @@
 -- `rest` meets its contract. Assumes nothing.
 use borrow.Author.Needs.{needs}
 use native.Mathlib.Omega.{arith}
-use mathlib.Core.Path.{_∙_}
-use lib.ListN.{take}
-use Rattle.painting.proofs.Masking.{masked-map}
+use Prim.Native.Nat.{_-_}
+use lib.ListN.{length}
+use Rattle.lists.proofs.Padding.{padded-part}
 use Rattle.painting.proofs.Whole.{rest-is, rest-none}
-use Rattle.paint_by_table.specs.Rules.{tableChunk}
+use Rattle.paint_by_table.proofs.Tabled.{mapped}
 use Rattle.paint_by_table.proofs.rest.Statement.{statement}
 use Rattle.paint_by_table.proofs.rest.Tie as tie
 
@@ -32,8 +32,10 @@ returns-2 c =
     let w = c .before .before .before .before .words16 in
     let l = c .before .before .before .before .before .load in
     let a = c .before .before .before .before .before .before .before .before .before .args in
-    let plainly = _∙_ {b = tableChunk (a .lookup .now) (a .size) (a .p) (take 16 (l .result))} (w .ensures) (masked-map _ _ _ _) in
-    rest-is _ (a .src .now) (a .out .now) (a .base) 16 (w .result) (l .result) (omega arith) (omega arith) (omega arith) (c .before .before .store .ensures) plainly (l .ensures)
+    let words = mapped 16 (a .lookup .now) (a .size) (a .p) (l .result) (w .result) (search needs) (search needs) (w .ensures) in
+    let part = padded-part _ 16 (a .src .now) (a .base) (length (a .src .now) - a .base) (l .ensures) (omega arith) in
+    rest-is _ (a .src .now) (a .out .now) (a .base) 16 (w .result) (l .result) (omega arith) (omega arith) (omega arith) (c .before .before .store .ensures)
+    words part
 
 pub rest-spec : {M : Type 1} → statement M
 rest-spec =

@@ -1,6 +1,6 @@
 -- `words16` meets its contract. Assumes nothing.
 use borrow.Author.Needs.{needs}
-use Rattle.paint_by_table.proofs.Tabled.{tabled}
+use Rattle.table_words.proofs.Phases.{in-two-phases}
 use Rattle.paint_by_table.proofs.words16.Statement.{statement}
 use Rattle.paint_by_table.proofs.words16.Tie as tie
 
@@ -13,8 +13,9 @@ known-requires c κs = search needs
 returns : tie.Need-returns
 returns c =
     let s = c .before .before in
-    tabled 16 (s .args .lookup .now) (s .args .size) (s .args .p) (s .args .v) (c .before .gather .result) (c .known .result)
-    (s .pre) (search needs) (search needs) (c .before .gather .ensures) (c .known .ensures)
+    let p = s .args .p in
+    in-two-phases 16 (s .args .lookup .now) (s .args .size) (p .nodata) (p .exclusions) (s .args .v) (c .before .gather .result) (c .known .result)
+    (s .pre) (c .before .gather .ensures) (c .known .ensures)
 
 pub words16-spec : {M : Type 1} → statement M
 words16-spec = tie.close (tie.spec gather-requires known-requires returns)

@@ -1,6 +1,8 @@
 -- `block_by_search` meets its contract. Assumes nothing.
 use borrow.Author.Needs.{needs}
 use mathlib.Core.Path.{refl}
+use native.Mathlib.Omega.{arith}
+use Rattle.lists.proofs.Padding.{padded-part}
 use Rattle.painting.proofs.Whole.{chunk-is}
 use Rattle.paint_categoric.proofs.block_by_search.Statement.{statement}
 use Rattle.paint_categoric.proofs.block_by_search.Tie as tie
@@ -21,7 +23,9 @@ returns : tie.Need-returns
 returns c keys count n =
     let w = c .before .before .before .before .words-by-search in
     let l = c .before .before .before .before .before .load in
-    chunk-is _ _ _ _ _ 16 (w .result) (l .result) refl (c .before .before .store .ensures) (w .ensures keys count n) (l .ensures)
+    let a = c .before .before .before .before .before .before .before .before .args in
+    let part = padded-part _ 16 (a .src .now) (a .base) 16 (l .ensures) (omega arith) in
+    chunk-is _ _ _ _ _ 16 (w .result) (l .result) refl (c .before .before .store .ensures) (w .ensures keys count n) part
 
 pub block-by-search-spec : {M : Type 1} → statement M
 block-by-search-spec =

@@ -1,6 +1,9 @@
 -- `rest_by_search` meets its contract. Assumes nothing.
 use borrow.Author.Needs.{needs}
+use Prim.Native.Nat.{_-_}
 use native.Mathlib.Omega.{arith}
+use lib.ListN.{length}
+use Rattle.lists.proofs.Padding.{padded-part}
 use Rattle.painting.proofs.Whole.{rest-is, rest-none}
 use Rattle.paint_categoric.proofs.rest_by_search.Statement.{statement}
 use Rattle.paint_categoric.proofs.rest_by_search.Tie as tie
@@ -28,7 +31,9 @@ returns-2 c keys count n =
     let w = c .before .before .before .before .words-by-search in
     let l = c .before .before .before .before .before .load in
     let a = c .before .before .before .before .before .before .before .before .before .args in
-    rest-is _ (a .src .now) (a .out .now) (a .base) 16 (w .result) (l .result) (omega arith) (omega arith) (omega arith) (c .before .before .store .ensures) (w .ensures keys count n) (l .ensures)
+    let part = padded-part _ 16 (a .src .now) (a .base) (length (a .src .now) - a .base) (l .ensures) (omega arith) in
+    rest-is _ (a .src .now) (a .out .now) (a .base) 16 (w .result) (l .result) (omega arith) (omega arith) (omega arith) (c .before .before .store .ensures)
+    (w .ensures keys count n) part
 
 pub rest-by-search-spec : {M : Type 1} → statement M
 rest-by-search-spec =

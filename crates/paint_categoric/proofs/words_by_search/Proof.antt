@@ -3,6 +3,7 @@ use borrow.Author.Needs.{needs}
 use mathlib.Core.Path.{ap, _∙_}
 use lib.Ieee.{nan}
 use lib.ListN.{take}
+use Rattle.lists.proofs.LanesOf.{lane-at}
 use Rattle.colormapper.specs.Unmappable.{excluded}
 use Rattle.categories.specs.Rule.{keyColor}
 use Rattle.painting.specs.Masked.{masked}
@@ -22,7 +23,8 @@ returns c keys count n =
     let a = c .before .before .args in
     let found = c .before .colors-for-numeric-values in
     let e = excluded (a .p .exclusions) in
-    lanes-masked e (a .p .nodata) 16 (c .masked-simd .result) (a .v) (found .result) (search needs) (search needs) (search needs) (c .masked-simd .ensures)
+    lanes-masked e (a .p .nodata) 16 (c .masked-simd .result) (a .v) (found .result) (search needs) (search needs) (search needs)
+    (lane-at (c .masked-simd .ensures) 0)
     ∙ ap (masked e (a .p .nodata) (take 16 (a .v))) (lanes-list nan 0 (keyColor keys (a .colors .now) count (a .p .nodata)) 16 (found .result) (a .v) (search needs) (search needs) (found .ensures keys count n))
     ∙ masked-map _ _ _ _
 

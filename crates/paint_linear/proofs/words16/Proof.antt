@@ -1,11 +1,5 @@
 -- `words16` meets its contract. Assumes nothing.
-use mathlib.Core.Path.{ap, _∙_}
-use lib.ListN.{take}
-use Rattle.painting.proofs.Lists.{lanes-list}
-use Rattle.painting.proofs.Masking.{lanes-masked}
-use Rattle.painting.specs.Masked.{masked}
-use Rattle.colormapper.specs.Unmappable.{excluded}
-use lib.Ieee.{nan}
+use Rattle.colormapper.proofs.MaskedLanes.{masked-lanes}
 use Rattle.linear_rule.specs.Rule.{laneColor}
 use borrow.Author.Needs.{needs}
 use Rattle.paint_linear.proofs.words16.Statement.{statement}
@@ -18,7 +12,11 @@ masked-simd-requires : tie.Need-masked-simd-requires
 masked-simd-requires c κs = search needs
 
 returns : tie.Need-returns
-returns c = let e = excluded (c .before .before .args .p .exclusions) in lanes-masked e (c .before .before .args .p .colors .nodata) 16 (c .masked-simd .result) (c .before .before .args .v) (c .before .color-for-numeric-value-simd16 .result) (search needs) (search needs) (search needs) (c .masked-simd .ensures) ∙ ap (masked e (c .before .before .args .p .colors .nodata) (take 16 (c .before .before .args .v))) (lanes-list nan 0 (laneColor (c .before .before .args .cmap .now) (c .before .before .args .p .start) (c .before .before .args .p .end) (c .before .before .args .p .colors)) 16 (c .before .color-for-numeric-value-simd16 .result) (c .before .before .args .v) (search needs) (search needs) (c .before .color-for-numeric-value-simd16 .ensures))
+returns c =
+    let a = c .before .before .args in
+    let p = a .p in
+    masked-lanes (p .exclusions) (p .colors .nodata) (laneColor (a .cmap .now) (p .start) (p .end) (p .colors)) (a .v) _
+    (c .before .color-for-numeric-value-simd16 .ensures) (c .masked-simd .ensures)
 
 pub words16-spec : {M : Type 1} → statement M
 words16-spec =

@@ -1,11 +1,6 @@
 -- `words_plain` meets its contract. Assumes nothing.
-use mathlib.Core.Path.{ap, _∙_}
-use lib.ListN.{getD}
-use Rattle.painting.proofs.Lists.{lanes-list}
-use Rattle.colormapper.specs.Unmappable.{excluded}
-use mathlib.Core.Bool.{cond}
-use lib.Ieee.{nan}
-use Rattle.paint_linear.specs.Rules.{plainSample}
+use Rattle.colormapper.proofs.MaskedLanes.{masked-lanes}
+use Rattle.linear_rule.specs.Rule.{plainColor}
 use borrow.Author.Needs.{needs}
 use Rattle.paint_linear.proofs.words_plain.Statement.{statement}
 use Rattle.paint_linear.proofs.words_plain.Tie as tie
@@ -17,7 +12,11 @@ masked-simd-requires : tie.Need-masked-simd-requires
 masked-simd-requires c κs = search needs
 
 returns : tie.Need-returns
-returns c = lanes-list nan 0 (plainSample (c .before .before .args .cmap .now) (c .before .before .args .p)) 16 (c .masked-simd .result) (c .before .before .args .v) (search needs) (search needs) (λ k h. c .masked-simd .ensures k h ∙ ap (λ w. cond (excluded (c .before .before .args .p .exclusions) (getD (c .before .before .args .v) k nan)) (c .before .before .args .p .colors .nodata) w) (c .before .colors-for-numeric-values .ensures k h))
+returns c =
+    let a = c .before .before .args in
+    let p = a .p in
+    masked-lanes (p .exclusions) (p .colors .nodata) (plainColor (a .cmap .now) (p .start) (p .end) (p .colors)) (a .v) _
+    (c .before .colors-for-numeric-values .ensures) (c .masked-simd .ensures)
 
 pub words-plain-spec : {M : Type 1} → statement M
 words-plain-spec =

@@ -1,23 +1,22 @@
 -- `load` meets its contract. Assumes nothing.
-use Rattle.lists.proofs.Filling.{Filling, filling-start, filling-turn, filling-end}
-use Rattle.painting.proofs.Lists.{lanes-part}
+use Rattle.lists.proofs.Padding.{Storing, storing-start, storing-turn, storing-part}
 use borrow.Author.Needs.{needs}
 use native.Mathlib.Omega.{arith}
 use Prim.Native.Nat.{_+_, _-_}
 use mathlib.Core.Path.{refl}
 use lib.ListN.{getD}
-use lib.Ieee.{nan}
+use lib.Ieee.{binary32, nan, ofBits}
 use Rattle.painting.proofs.load.Statement.{statement}
 use Rattle.painting.proofs.load.Tie as tie
 
 abbrev Inv-loop : tie.InvT-loop
-Inv-loop l src base v₀ i₀ v i = Filling nan (λ k. getD src (base + k) nan) 16 l i v
+Inv-loop l src base v₀ i₀ v i = Storing (ofBits binary32 0) (λ k. getD src (base + k) nan) 16 l i v
 
 abbrev μ-loop : tie.MeasureT-loop
 μ-loop l src base v₀ i₀ v i = l - i
 
 loop-holds : tie.Need-loop-holds Inv-loop μ-loop
-loop-holds c = filling-start (search needs)
+loop-holds c = storing-start
 
 add-v : tie.Need-add-v Inv-loop μ-loop
 add-v c = search needs
@@ -41,10 +40,10 @@ loop-less : tie.Need-loop-less Inv-loop μ-loop
 loop-less c = search needs
 
 loop-again : tie.Need-loop-again Inv-loop μ-loop
-loop-again c = filling-turn (c .before .before .loop .inv) (omega arith) (omega arith) refl
+loop-again c = storing-turn (c .before .before .loop .inv) (omega arith) (omega arith) refl
 
 returns : tie.Need-returns Inv-loop μ-loop
-returns c = lanes-part nan (c .before .before .args .l) (c .before .loop .v) (c .before .before .args .src .now) (c .before .before .args .base) (search needs) (search needs) (filling-end (c .before .loop .inv) (omega arith))
+returns c = storing-part nan (c .before .before .args .src .now) (c .before .before .args .base) (c .before .loop .inv) (omega arith) (search needs)
 
 pub load-spec : {M : Type 1} → statement M
 load-spec =

@@ -3,20 +3,23 @@ use borrow.Author.Needs.{needs}
 use Prim.Native.Nat.{_-_}
 use native.Mathlib.Omega.{arith}
 use lib.ListN.{getD}
-use lib.Ieee.{nan}
-use Rattle.lists.proofs.Filling.{Filling, filling-start, filling-turn, filling-end}
+use lib.Ieee.{nan, ofBits}
+use Rattle.floats.specs.RampIndex.{nought}
+use Rattle.lists.proofs.Padding.{Storing, storing-start, storing-turn}
+use Rattle.lists.proofs.LanesOf.{lanes-stored}
 use Rattle.table_words.specs.InTable.{kept}
 use Rattle.table_words.proofs.clamped_lanes.Statement.{statement}
 use Rattle.table_words.proofs.clamped_lanes.Tie as tie
 
 abbrev Inv-loop : tie.InvT-loop
-Inv-loop lanes size value result₀ i₀ result i = Filling nan (λ k. kept size (getD value k nan)) 16 lanes i result
+Inv-loop lanes size value result₀ i₀ result i = Storing nought (λ k. kept size (getD value k nan)) 16 lanes i result
 
 abbrev μ-loop : tie.MeasureT-loop
 μ-loop lanes size value result₀ i₀ result i = lanes - i
 
 loop-holds : tie.Need-loop-holds Inv-loop μ-loop
-loop-holds c = filling-start (search needs)
+unfolding ofBits
+loop-holds c = storing-start
 
 mul-clamped : tie.Need-mul-clamped Inv-loop μ-loop
 mul-clamped c = search needs
@@ -40,10 +43,10 @@ loop-less : tie.Need-loop-less Inv-loop μ-loop
 loop-less c = search needs
 
 loop-again : tie.Need-loop-again Inv-loop μ-loop
-loop-again c = filling-turn (c .before .before .loop .inv) (omega arith) (omega arith) (c .clamped .ensures)
+loop-again c = storing-turn (c .before .before .loop .inv) (omega arith) (omega arith) (c .clamped .ensures)
 
 returns : tie.Need-returns Inv-loop μ-loop
-returns c = filling-end (c .before .loop .inv) (omega arith)
+returns c = lanes-stored (c .before .loop .inv) (omega arith)
 
 pub clamped-lanes-spec : {M : Type 1} → statement M
 clamped-lanes-spec =

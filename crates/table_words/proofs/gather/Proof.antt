@@ -1,10 +1,11 @@
 -- `gather` meets its contract. Assumes nothing.
 use borrow.Author.Needs.{needs}
-use mathlib.Core.Path.{sym, ap, subst, _∙_}
+use mathlib.Core.Path.{sym, ap, subst}
 use lib.Dec.{T}
 use lib.Ieee.{nan}
 use lib.ListN.{getD}
 use Rattle.floats.specs.RampIndex.{floorOf}
+use Rattle.lists.proofs.LanesOf.{lane-at, lanes-agree}
 use Rattle.table_words.specs.InTable.{isPlace}
 use Rattle.table_words.proofs.TableTest.{kept-place}
 use Rattle.table_words.proofs.gather.Statement.{statement}
@@ -16,10 +17,13 @@ clamped-lanes-requires c κs = search needs
 words-at-requires : tie.Need-words-at-requires
 words-at-requires c κs =
     let s = c .before in
-    (s .pre .0, λ k q. subst (λ x. T (isPlace x)) (sym (c .clamped-lanes .ensures k q)) (kept-place (s .args .size) (s .pre .1) (getD (s .args .value) k nan)))
+    let clamped = lane-at (c .clamped-lanes .ensures) nan in
+    (s .pre .0, λ k q. subst (λ x. T (isPlace x)) (sym (clamped k q)) (kept-place (s .args .size) (s .pre .1) (getD (s .args .value) k nan)))
 
 returns : tie.Need-returns
-returns c k q = c .words-at .ensures k q ∙ ap (λ x. getD (c .before .before .args .lookup .now) (floorOf x) 0) (c .before .clamped-lanes .ensures k q)
+returns c =
+    lanes-agree (c .words-at .ensures)
+    (λ k q. ap (λ x. getD (c .before .before .args .lookup .now) (floorOf x) 0) (lane-at (c .before .clamped-lanes .ensures) nan k q))
 
 pub gather-spec : {M : Type 1} → statement M
 gather-spec = tie.close (tie.spec clamped-lanes-requires words-at-requires returns)

@@ -6,19 +6,21 @@ use Prim.Native.Nat.{_-_}
 use native.Mathlib.Omega.{arith}
 use lib.ListN.{getD}
 use lib.Ieee.{nan}
-use Rattle.lists.proofs.Filling.{Filling, filling-start, filling-turn, filling-end}
+use Rattle.lists.proofs.Padding.{Storing, storing-start, storing-turn}
+use Rattle.lists.proofs.LanesOf.{lanes-stored}
 use Rattle.table_words.specs.InTable.{shown}
 use Rattle.table_words.proofs.known.Statement.{statement}
 use Rattle.table_words.proofs.known.Tie as tie
 
 abbrev Inv-loop : tie.InvT-loop
-Inv-loop lanes size nodata value words absent zero result₀ i₀ result i = Filling 0 (λ k. cond (shown (record { nodata = absent; zero = zero }) size (getD value k nan)) (getD words k 0) nodata) 16 lanes i result
+Inv-loop lanes size nodata value words absent zero result₀ i₀ result i =
+    Storing 0 (λ k. cond (shown (record { nodata = absent; zero = zero }) size (getD value k nan)) (getD words k 0) nodata) 16 lanes i result
 
 abbrev μ-loop : tie.MeasureT-loop
 μ-loop lanes size nodata value words absent zero result₀ i₀ result i = lanes - i
 
 loop-holds : tie.Need-loop-holds Inv-loop μ-loop
-loop-holds c = filling-start (search needs)
+loop-holds c = storing-start
 
 mul-v : tie.Need-mul-v Inv-loop μ-loop
 mul-v c = search needs
@@ -52,10 +54,10 @@ loop-less c = search needs
 
 loop-again : tie.Need-loop-again Inv-loop μ-loop
 unfolding shown
-loop-again c = filling-turn (c .before .before .before .loop .inv) (omega arith) (omega arith) (c .pick .ensures ∙ cc (c .before .in-table .ensures))
+loop-again c = storing-turn (c .before .before .before .loop .inv) (omega arith) (omega arith) (c .pick .ensures ∙ cc (c .before .in-table .ensures))
 
 returns : tie.Need-returns Inv-loop μ-loop
-returns c = filling-end (c .before .loop .inv) (omega arith)
+returns c = lanes-stored (c .before .loop .inv) (omega arith)
 
 pub known-spec : {M : Type 1} → statement M
 known-spec =

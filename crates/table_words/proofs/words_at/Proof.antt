@@ -5,20 +5,21 @@ use Prim.Native.Nat.{_-_, _<_}
 use native.Mathlib.Omega.{arith}
 use lib.ListN.{getD}
 use lib.Ieee.{nan, ofBits}
-use Rattle.lists.proofs.Filling.{Filling, filling-start, filling-turn, filling-end}
+use Rattle.lists.proofs.Padding.{Storing, storing-start, storing-turn}
+use Rattle.lists.proofs.LanesOf.{lanes-stored}
 use Rattle.floats.specs.RampIndex.{floorOf}
 use Rattle.table_words.proofs.TableTest.{place-from, place-below, place-lt}
 use Rattle.table_words.proofs.words_at.Statement.{statement}
 use Rattle.table_words.proofs.words_at.Tie as tie
 
 abbrev Inv-loop : tie.InvT-loop
-Inv-loop lanes lookup places result₀ i₀ result i = Filling 0 (λ k. getD lookup (floorOf (getD places k nan)) 0) 16 lanes i result
+Inv-loop lanes lookup places result₀ i₀ result i = Storing 0 (λ k. getD lookup (floorOf (getD places k nan)) 0) 16 lanes i result
 
 abbrev μ-loop : tie.MeasureT-loop
 μ-loop lanes lookup places result₀ i₀ result i = lanes - i
 
 loop-holds : tie.Need-loop-holds Inv-loop μ-loop
-loop-holds c = filling-start (search needs)
+loop-holds c = storing-start
 
 mul-floor : tie.Need-mul-floor Inv-loop μ-loop
 mul-floor c = search needs
@@ -59,10 +60,10 @@ loop-less c = search needs
 loop-again : tie.Need-loop-again Inv-loop μ-loop
 loop-again c =
     let l = c .before .before .before in
-    filling-turn (l .loop .inv) (omega arith) (omega arith) (ap (λ k. getD (l .before .args .lookup .now) k 0) (c .before .floor .ensures))
+    storing-turn (l .loop .inv) (omega arith) (omega arith) (ap (λ k. getD (l .before .args .lookup .now) k 0) (c .before .floor .ensures))
 
 returns : tie.Need-returns Inv-loop μ-loop
-returns c = filling-end (c .before .loop .inv) (omega arith)
+returns c = lanes-stored (c .before .loop .inv) (omega arith)
 
 pub words-at-spec : {M : Type 1} → statement M
 words-at-spec =

@@ -1,5 +1,6 @@
 -- `ramps::legend_get_color_simd` meets its contract. Assumes nothing.
 use native.Mathlib.Omega.{arith}
+use Rattle.lists.proofs.LanesOf.{lane-at}
 use borrow.Author.Needs.{needs}
 use Rattle.c_queries.proofs.ramps.legend_get_color_simd.Statement.{statement}
 use Rattle.c_queries.proofs.ramps.legend_get_color_simd.Tie as tie
@@ -11,7 +12,7 @@ array-read-result : tie.Need-array-read-result
 array-read-result c = search needs
 
 returns : tie.Need-returns
-returns c = c .get-color-simd .ensures 0 (omega arith)
+returns c = lane-at (c .get-color-simd .ensures) 0 0 (omega arith)
 
 pub legend-get-color-simd-spec : {M : Type 1} → statement M
 legend-get-color-simd-spec = tie.close (tie.spec get-color-simd-requires array-read-result returns)

@@ -3,7 +3,8 @@ use borrow.Author.Needs.{needs}
 use native.Mathlib.Omega.{arith}
 use Prim.Native.Nat.{_-_}
 use lib.ListN.{getD}
-use Rattle.lists.proofs.Filling.{Filling, filling-start, filling-turn, filling-end}
+use Rattle.lists.proofs.Padding.{Storing, storing-start, storing-turn}
+use Rattle.lists.proofs.LanesOf.{lanes-stored}
 use mathlib.Core.Bool.{cond}
 use lib.Ieee.{nan}
 use Rattle.colormapper.specs.Unmappable.{excluded}
@@ -11,13 +12,13 @@ use Rattle.colormapper.proofs.Exclusions.masked_simd.Statement.{stateme
 use Rattle.colormapper.proofs.Exclusions.masked_simd.Tie as tie
 
 abbrev Inv-loop : tie.InvT-loop
-Inv-loop self lanes nodata value color result₀ i₀ result i = Filling 0 (λ k. cond (excluded self (getD value k nan)) nodata (getD color k 0)) 16 lanes i result
+Inv-loop self lanes nodata value color result₀ i₀ result i = Storing 0 (λ k. cond (excluded self (getD value k nan)) nodata (getD color k 0)) 16 lanes i result
 
 abbrev μ-loop : tie.MeasureT-loop
 μ-loop self lanes nodata value color result₀ i₀ result i = lanes - i
 
 loop-holds : tie.Need-loop-holds Inv-loop μ-loop
-loop-holds c = filling-start (search needs)
+loop-holds c = storing-start
 
 mul-masked : tie.Need-mul-masked Inv-loop μ-loop
 mul-masked c = search needs
@@ -47,10 +48,10 @@ loop-less : tie.Need-loop-less Inv-loop μ-loop
 loop-less c = search needs
 
 loop-again : tie.Need-loop-again Inv-loop μ-loop
-loop-again c = filling-turn (c .before .before .loop .inv) (omega arith) (omega arith) (c .masked .ensures)
+loop-again c = storing-turn (c .before .before .loop .inv) (omega arith) (omega arith) (c .masked .ensures)
 
 returns : tie.Need-returns Inv-loop μ-loop
-returns c = filling-end (c .before .loop .inv) (omega arith)
+returns c = lanes-stored (c .before .loop .inv) (omega arith)
 
 pub masked-simd-spec : {M : Type 1} → statement M
 masked-simd-spec =
