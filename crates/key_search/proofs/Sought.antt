@@ -23,7 +23,7 @@ use Rattle.categories.proofs.FirstKey.{eqZ→eq, same-key, found-at, found-nowh
 use Rattle.narrow_keys.specs.Searchable.{near}
 use Rattle.narrow_keys.specs.Narrow.{Narrow, none, keyOf}
 use Rattle.narrow_keys.proofs.NearKeys.{they-ascend, they-are-near, near-below, none-is-not, key-below}
-use Rattle.key_search.specs.Halving.{colorAtEnd}
+use Rattle.key_search.specs.Halving.{colorAtEnd, searchColor}
 use Rattle.key_search.proofs.Steps.{Rising, Narrowed, end-narrowed}
 
 module _ (keys : List ℤ) (count : ℕ) (narrow : List ℤ) (n : Narrow keys count narrow) where
@@ -115,6 +115,6 @@ module _ (keys : List ℤ) (count : ℕ) (narrow : List ℤ) (n : Narrow keys co
   unfolding colorAtEnd
   at-end z low colors nodata = looked-up z low _ (end-narrowed narrow z rising) colors nodata
 
-  pub sample-color : (colors : List ℕ) (nodata : ℕ) (v : Float) → colorAtEnd narrow colors nodata (keyOf (truncated v)) ≡ keyColor keys colors count nodata v
+  pub sample-color : (colors : List ℕ) (nodata : ℕ) (v : Float) → searchColor narrow colors nodata v ≡ keyColor keys colors count nodata v
   unfolding keyColor
   sample-color colors nodata v = at-end (keyOf (truncated v)) (key-below (truncated v)) colors nodata ∙ ap (ruleColor [] colors nodata) (by-rule (truncated v))

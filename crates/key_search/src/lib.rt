@@ -8,11 +8,9 @@ ghost use lib.IntN.{pos};
 ghost use lib.ListN.{getD};
 ghost use lib.Signed.{leZ};
 ghost use mir.Val.{boolByte};
-ghost use Rattle.cast.specs.Truncated.{truncated};
 ghost use Rattle.categories.specs.Rule.{eqZ};
 ghost use Rattle.lists.specs.Lanes.{Lanes};
-ghost use Rattle.narrow_keys.specs.Narrow.{keyOf};
-ghost use Rattle.key_search.specs.Halving.{leading, half, colorAtEnd, Within};
+ghost use Rattle.key_search.specs.Halving.{leading, half, searchColor, Within};
 
 // The colours of sixteen samples, by any 256 numbers: one step to the 32 places among which a key can be, and five halvings.
 pub fn colors_for_numeric_values(
@@ -21,7 +19,7 @@ pub fn colors_for_numeric_values(
     nodata: u32,
     value: [f32; 16],
 ) -> [u32; 16]
-    ensures { λ r. ⌜ Lanes 0 16 r (λ k. colorAtEnd (now (narrow .entry)) (now (colors .entry)) nodata (keyOf (truncated (getD value k nan)))) ⌝ }
+    ensures { λ r. ⌜ Lanes 0 16 r (λ k. searchColor (now (narrow .entry)) (now (colors .entry)) nodata (getD value k nan)) ⌝ }
 {
     let key = narrow_keys::narrowed_samples(value);
     let a = leading_places(narrow, key);

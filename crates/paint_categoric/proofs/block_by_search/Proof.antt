@@ -18,10 +18,10 @@ same-length : tie.Need-same-length
 same-length c = search needs
 
 returns : tie.Need-returns
-returns c keys count n =
+returns c =
     let w = c .before .before .before .before .words-by-search in
     let l = c .before .before .before .before .before .load in
-    chunk-is _ _ _ _ _ 16 (w .result) (l .result) refl (c .before .before .store .ensures) (w .ensures keys count n) (l .ensures)
+    chunk-is _ _ _ _ _ 16 (w .result) (l .result) refl (c .before .before .store .ensures) (w .ensures) (l .ensures)
 
 pub block-by-search-spec : {M : Type 1} → statement M
 block-by-search-spec =
