@@ -1,8 +1,8 @@
 -- The colours of the outer bands (docs/RULES.md, "Samples and settings"). Definitions only.
 use Prim.Native.Nat.{ℕ}
 use mathlib.Core.List.{List, [], _∷_}
-use Rattle.bands.specs.declared.LegendBand.{LegendBand}
-use Rattle.bands.specs.Band.{lastOf}
+use Rattle.legend_band.specs.declared.LegendBand.{LegendBand}
+use Rattle.legend_band.specs.Band.{lastOf}
 
 -- the first band's colour and the last band's, or another with no bands
 abbrev pub firstColorOr : List LegendBand → (other : ℕ) → ℕ

@@ -1,10 +1,10 @@
 // An array of bands read by its columns: starts, ends and colours, and the outer bands' colours (docs/RULES.md, "Banded").
-use bands::LegendBand;
+use legend_band::LegendBand;
 ghost use mathlib.Core.Path.{_≡_};
 ghost use mathlib.Core.List.{map};
 ghost use Prim.Native.Nat.{min};
 ghost use lib.ListN.{take};
-ghost use Rattle.bands.specs.declared.LegendBand.{LegendBand};
+ghost use Rattle.legend_band.specs.declared.LegendBand.{LegendBand};
 ghost use Rattle.band_columns.specs.OuterColors.{firstColorOr, lastColorOr};
 
 // ---- columns

@@ -11,8 +11,8 @@ use Rattle.lists.specs.Lanes.{LanesOf}
 use Rattle.lists.specs.Padded.{padded}
 use Rattle.lists.specs.Tabulate.{tabulate}
 use Rattle.lists.proofs.LanesOf.{lane-at, lanes-own, lanes-blank}
-use Rattle.bands.specs.declared.LegendBand.{LegendBand}
-use Rattle.bands.specs.Band.{holds}
+use Rattle.legend_band.specs.declared.LegendBand.{LegendBand}
+use Rattle.legend_band.specs.Band.{holds}
 use Rattle.lane_edges.specs.Edges.{Lane}
 use Rattle.band_lanes.specs.LaneRule.{started, over, allInside, scanned}
 use Rattle.bands.specs.Packed.{bandAt, packed}

@@ -6,7 +6,7 @@ use native.Mathlib.Omega.{arith}
 use lib.Ieee.{Float}
 use Rattle.lists.specs.Tabulate.{tabulate}
 use Rattle.colormapper.specs.declared.UnmappableColors.{UnmappableColors}
-use Rattle.bands.specs.declared.LegendBand.{LegendBand}
+use Rattle.legend_band.specs.declared.LegendBand.{LegendBand}
 use Rattle.bands.specs.Packed.{bandAt, packed}
 use Rattle.bands.proofs.Forms.{last-is}
 use Rattle.lane_edges.specs.Edges.{edged}

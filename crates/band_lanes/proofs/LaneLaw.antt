@@ -10,8 +10,8 @@ use lib.Ieee.{Float, nan, isNan}
 use lib.Ieee.Fits.{and-l, and-r}
 use lib.ListN.{length, getD, length-map}
 use Rattle.colormapper.specs.declared.UnmappableColors.{UnmappableColors}
-use Rattle.bands.specs.declared.LegendBand.{LegendBand}
-use Rattle.bands.specs.Band.{holds, lastOf}
+use Rattle.legend_band.specs.declared.LegendBand.{LegendBand}
+use Rattle.legend_band.specs.Band.{holds, lastOf}
 use Rattle.bands.specs.PlainRule.{plainRule, ruleColor, plainColor}
 use Rattle.lane_edges.specs.Edges.{Lane, edged}
 use Rattle.band_lanes.specs.LaneRule.{started, over, allInside, scanned, laneColors}

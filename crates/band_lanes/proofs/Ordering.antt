@@ -4,7 +4,7 @@ use lib.Dec.{T, not-T}
 use lib.Ieee.{lt, le}
 use lib.Ieee.Fits.{and-i, and-l, and-r}
 use Rattle.floats.proofs.Order.{lt-le, lt-not-le, lt→le, lt-l, lt-r, not-lt}
-use Rattle.bands.specs.declared.LegendBand.{LegendBand}
+use Rattle.legend_band.specs.declared.LegendBand.{LegendBand}
 use Rattle.band_lanes.specs.Sound.{startsBelowEnd, ascends, clears, eachBand, eachAfter, eachNext, Disjoint, Ordered}
 
 pub ordered-disjoint : {bands : List LegendBand} → Ordered bands → Disjoint bands

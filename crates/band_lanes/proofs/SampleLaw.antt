@@ -10,8 +10,8 @@ use lib.Ieee.Fits.{and-i, and-l, and-r}
 use Rattle.floats.proofs.Order.{le-le, lt-le, lt-not-le, not-lt, not-le, lt→le, lt-l, le-l, le-r, le-refl-float}
 use Rattle.colormapper.specs.declared.UnmappableColors.{UnmappableColors}
 use Rattle.colormapper.specs.Tolerance.{E, within}
-use Rattle.bands.specs.declared.LegendBand.{LegendBand}
-use Rattle.bands.specs.Band.{holds, lastOf}
+use Rattle.legend_band.specs.declared.LegendBand.{LegendBand}
+use Rattle.legend_band.specs.Band.{holds, lastOf}
 use Rattle.bands.specs.PlainRule.{plainColor}
 use Rattle.lane_edges.specs.Edges.{edged}
 use Rattle.bands.specs.Parts.{firstColor, edgeColor}

@@ -16,7 +16,7 @@ use Rattle.lists.proofs.Tabulated.{tabulate-own}
 use Rattle.lists.proofs.Padding.{getD-padded}
 use Rattle.lists.proofs.LanesOf.{lanes-agree}
 use Rattle.colormapper.specs.declared.UnmappableColors.{UnmappableColors}
-use Rattle.bands.specs.declared.LegendBand.{LegendBand}
+use Rattle.legend_band.specs.declared.LegendBand.{LegendBand}
 use Rattle.band_lanes.specs.declared.Scan.{Scan}
 use Rattle.lane_edges.specs.Edges.{Lane, edged, laneEdgeColor}
 use Rattle.band_lanes.specs.LaneRule.{started, laneColors}

@@ -6,7 +6,7 @@ use mathlib.Core.List.{List, [], _∷_, map}
 use lib.Ieee.{Float}
 use lib.ListN.{take}
 use Rattle.lists.specs.Padded.{padded}
-use Rattle.bands.specs.declared.LegendBand.{LegendBand}
+use Rattle.legend_band.specs.declared.LegendBand.{LegendBand}
 use Rattle.band_lanes.specs.declared.Scan.{Scan}
 use Rattle.lane_edges.specs.Edges.{Lane}
 use Rattle.band_lanes.specs.LaneRule.{started, over, allInside}

@@ -5,8 +5,8 @@ use lib.Dec.{T}
 use lib.Ieee.{binary32, lt, le, sub}
 use lib.Ieee.Scale.{finite}
 use Rattle.colormapper.specs.Tolerance.{E}
-use Rattle.bands.specs.declared.LegendBand.{LegendBand}
-use Rattle.bands.specs.Band.{lastOf}
+use Rattle.legend_band.specs.declared.LegendBand.{LegendBand}
+use Rattle.legend_band.specs.Band.{lastOf}
 
 -- ---- tests of a band, and of a band and the one before it
 abbrev pub finiteBand : LegendBand → Bool

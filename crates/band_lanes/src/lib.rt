@@ -1,7 +1,7 @@
 // Lists of bands over a chunk of lanes: the colour of each lane (docs/RULES.md, "Banded"). A list comes as in `bands`, with a
 // count of at most 64.
-use bands::LegendBand;
 use colormapper::UnmappableColors;
+use legend_band::LegendBand;
 ghost use mathlib.Core.Path.{_≡_};
 ghost use mathlib.Core.Bool.{false, cond, _||_};
 ghost use Prim.Native.Nat.{_≤_};
@@ -9,7 +9,7 @@ ghost use lib.Ieee.{nan};
 ghost use lib.ListN.{getD, take};
 ghost use Rattle.lists.specs.Lanes.{LanesOf};
 ghost use Rattle.lists.specs.Padded.{padded};
-ghost use Rattle.bands.specs.Band.{holds};
+ghost use Rattle.legend_band.specs.Band.{holds};
 ghost use Rattle.bands.specs.Packed.{packed};
 ghost use Rattle.band_lanes.specs.LaneRule.{laneColors};
 ghost use Rattle.band_lanes.specs.Parts.{allBelow, Scanned};

@@ -18,7 +18,7 @@ use Rattle.refusal.specs.declared.Answer.the-variants.{Done}
 use Rattle.refusal.specs.declared.Refusal.the-variants.{StartAboveEnd, TooManyBands, ColorCountDiffers}
 use Rattle.refusal.specs.Outcome.{refuseIf}
 use Rattle.refusal.proofs.Outcomes.{passed}
-use Rattle.bands.specs.declared.LegendBand.{LegendBand}
+use Rattle.legend_band.specs.declared.LegendBand.{LegendBand}
 use Rattle.band_lists.specs.Places.{blankBand, placesOf}
 use Rattle.band_lists.specs.EqualBands.{bandStep, bandStart, bandFrom, equalBands, equalRefusal}
 use Rattle.band_lists.proofs.Storing.{no-bands-stored}

@@ -3,7 +3,7 @@ use mathlib.Core.Path.{_≡_, sym, subst, _∙_}
 use mathlib.Core.List.{List, []}
 use Prim.Native.Nat.{ℕ}
 use Rattle.lists.proofs.Padding.{padded-none, Storing, storing-start}
-use Rattle.bands.specs.declared.LegendBand.{LegendBand}
+use Rattle.legend_band.specs.declared.LegendBand.{LegendBand}
 use Rattle.band_lists.specs.Places.{blankBand, placesOf}
 
 pub no-bands-stored : {n : ℕ} {f : ℕ → LegendBand} {r : List LegendBand} → r ≡ placesOf [] → Storing blankBand f 64 n 0 r

@@ -11,7 +11,7 @@ use Rattle.refusal.specs.declared.Refusal.the-variants.{StartAboveEnd, TooManyB
 use Rattle.refusal.specs.declared.Answer.{Answer}
 use Rattle.refusal.specs.declared.Answer.the-variants.{Done}
 use Rattle.refusal.specs.Outcome.{refuseIf}
-use Rattle.bands.specs.declared.LegendBand.{LegendBand}
+use Rattle.legend_band.specs.declared.LegendBand.{LegendBand}
 
 -- (end - start) / count
 unfoldable pub bandStep : (count : ℕ) (start end : Float) → Float

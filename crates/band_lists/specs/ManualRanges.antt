@@ -9,7 +9,7 @@ use Rattle.refusal.specs.declared.Refusal.the-variants.{TooManyBands, ColorCoun
 use Rattle.refusal.specs.declared.Answer.{Answer}
 use Rattle.refusal.specs.declared.Answer.the-variants.{Done}
 use Rattle.refusal.specs.Outcome.{refuseIf}
-use Rattle.bands.specs.declared.LegendBand.{LegendBand}
+use Rattle.legend_band.specs.declared.LegendBand.{LegendBand}
 use Rattle.band_lists.specs.declared.ValueRange.{ValueRange}
 use Rattle.band_lists.specs.declared.ValueRanges.{ValueRanges}
 

@@ -2,7 +2,7 @@
 use mathlib.Core.List.{List}
 use Rattle.floats.specs.RampIndex.{nought}
 use Rattle.lists.specs.Padded.{padded}
-use Rattle.bands.specs.declared.LegendBand.{LegendBand}
+use Rattle.legend_band.specs.declared.LegendBand.{LegendBand}
 
 -- what stands in the places that no band uses
 abbrev pub blankBand : LegendBand

@@ -1,5 +1,5 @@
 // The bands that a builder stores: equal ones and those of manual ranges, in an array of 64 (docs/RULES.md, "Banded").
-use bands::LegendBand;
+use legend_band::LegendBand;
 use refusal::Answer;
 use refusal::Refusal;
 ghost use mathlib.Core.Path.{_≡_};

@@ -8,8 +8,8 @@ use lib.Dec.{T}
 use lib.Ieee.{Float}
 use Rattle.lists.specs.Tabulate.{tabulate}
 use Rattle.colormapper.specs.declared.UnmappableColors.{UnmappableColors}
-use Rattle.bands.specs.declared.LegendBand.{LegendBand}
-use Rattle.bands.specs.Band.{holds}
+use Rattle.legend_band.specs.declared.LegendBand.{LegendBand}
+use Rattle.legend_band.specs.Band.{holds}
 use Rattle.bands.specs.PlainRule.{plainColor}
 use Rattle.bands.specs.Packed.{bandAt, packed}
 use Rattle.bands.specs.Parts.{firstColor, edgeColor}

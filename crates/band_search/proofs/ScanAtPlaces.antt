@@ -17,7 +17,7 @@ use Rattle.lists.specs.Padded.{padded}
 use Rattle.lists.specs.Tabulate.{tabulate}
 use Rattle.lists.proofs.Numbers.{lt-or-le}
 use Rattle.lists.proofs.LanesOf.{lane-at, lanes-agree}
-use Rattle.bands.specs.declared.LegendBand.{LegendBand}
+use Rattle.legend_band.specs.declared.LegendBand.{LegendBand}
 use Rattle.lane_edges.specs.Edges.{Lane}
 use Rattle.band_lanes.specs.LaneRule.{started, over, allInside}
 use Rattle.bands.specs.Packed.{bandAt, packed}

@@ -10,7 +10,7 @@ use Rattle.refusal.specs.declared.Answer.{Answer}
 use Rattle.refusal.specs.declared.Answer.the-variants.{Done, Refused}
 use Rattle.refusal.specs.declared.Refusal.{Refusal}
 use Rattle.colormap.specs.Positions.{rampColors}
-use Rattle.bands.specs.declared.LegendBand.{LegendBand}
+use Rattle.legend_band.specs.declared.LegendBand.{LegendBand}
 use Rattle.band_lists.specs.Places.{placesOf}
 use Rattle.band_lists.specs.EqualBands.{equalBands, equalRefusal}
 use Rattle.band_lists.proofs.Equal.{equal-same, equal-length, equal-padded}

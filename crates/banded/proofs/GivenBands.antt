@@ -13,7 +13,7 @@ use Rattle.lists.proofs.Padding.{padded-more}
 use Rattle.refusal.specs.declared.Refusal.the-variants.{TooManyBands}
 use Rattle.refusal.specs.declared.Answer.the-variants.{Done}
 use Rattle.refusal.specs.Outcome.{refuseIf}
-use Rattle.bands.specs.declared.LegendBand.{LegendBand}
+use Rattle.legend_band.specs.declared.LegendBand.{LegendBand}
 use Rattle.band_lists.specs.Places.{blankBand}
 use Rattle.banded.specs.declared.Banded.{Banded}
 use Rattle.banded.specs.Record.{bandedOf, beside}

@@ -8,7 +8,7 @@ use Rattle.lists.specs.Padded.{padded}
 use Rattle.refusal.specs.declared.Answer.{Answer}
 use Rattle.refusal.specs.declared.Answer.the-variants.{Done, Refused}
 use Rattle.refusal.specs.declared.Refusal.{Refusal}
-use Rattle.bands.specs.declared.LegendBand.{LegendBand}
+use Rattle.legend_band.specs.declared.LegendBand.{LegendBand}
 use Rattle.band_lists.specs.declared.ValueRanges.{ValueRanges}
 use Rattle.band_lists.specs.Places.{placesOf}
 use Rattle.band_lists.specs.ManualRanges.{rangesOf, rangeBands, manualRefusal}

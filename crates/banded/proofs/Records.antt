@@ -8,7 +8,7 @@ use Rattle.refusal.specs.declared.Refusal.{Refusal}
 use Rattle.refusal.specs.declared.Answer.{Answer}
 use Rattle.refusal.specs.declared.Answer.the-variants.{Done, Refused}
 use Rattle.refusal.proofs.Outcomes.{when-done, when-refused}
-use Rattle.bands.specs.declared.LegendBand.{LegendBand}
+use Rattle.legend_band.specs.declared.LegendBand.{LegendBand}
 use Rattle.band_lists.specs.Places.{blankBand, placesOf}
 use Rattle.banded.specs.declared.Banded.{Banded}
 use Rattle.banded.specs.declared.MadeBanded.{MadeBanded}

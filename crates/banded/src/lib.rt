@@ -1,8 +1,8 @@
 // The banded legend: its record, its builders, and what the painters need of it (docs/RULES.md, "Banded").
 use band_lists::ValueRanges;
-use bands::LegendBand;
 use colormapper::MappingConfig;
 use colormapper::UnmappableColors;
+use legend_band::LegendBand;
 use refusal::Answer;
 use refusal::Refusal;
 ghost use mathlib.Core.Path.{_≡_};
@@ -10,7 +10,6 @@ ghost use mathlib.Core.List.{[]};
 ghost use Prim.Native.Nat.{_≤_};
 ghost use lib.ListN.{length, take};
 ghost use Rattle.colormap.specs.Positions.{rampColors};
-ghost use Rattle.colormapper.specs.Tolerance.{E};
 ghost use Rattle.banded.specs.Record.{bandedOf, counted, beside, bandedRefusal};
 ghost use Rattle.banded.specs.Given.{withBand, folded, givenRefusal, withBandsGiven};
 ghost use Rattle.banded.specs.EqualBands.{withEqualBands};
@@ -32,14 +31,7 @@ pub struct MadeBanded {
 
 impl Banded {
     // How near to the outer edges a sample still gets the edge band's colour.
-    pub const EDGE_TOLERANCE: f32 = LegendBand::EDGE_TOLERANCE;
-
-    // The constant as a value with a contract.
-    pub fn edge_tolerance() -> f32
-        ensures { λ r. ⌜ r ≡ E ⌝ }
-    {
-        Banded::EDGE_TOLERANCE
-    }
+    pub const EDGE_TOLERANCE: f32 = 1e-4;
 
     // No bands.
     pub fn default() -> Banded

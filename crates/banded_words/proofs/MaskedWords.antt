@@ -14,7 +14,7 @@ use Rattle.lists.proofs.LanesOf.{lane-at, lanes-length, lanes-padded}
 use Rattle.colormapper.specs.Unmappable.{excluded}
 use Rattle.painting.specs.Masked.{masked}
 use Rattle.painting.proofs.Masking.{lanes-masked, length-masked}
-use Rattle.bands.specs.declared.LegendBand.{LegendBand}
+use Rattle.legend_band.specs.declared.LegendBand.{LegendBand}
 use Rattle.band_lanes.specs.LaneRule.{laneColors}
 use Rattle.band_lanes.proofs.LaneLaw.{lane-length}
 use Rattle.banded_words.specs.declared.BandedPaint.{BandedPaint}

@@ -4,7 +4,7 @@ use mathlib.Core.List.{List}
 use lib.Ieee.{Float}
 use Rattle.colormapper.specs.Unmappable.{excluded}
 use Rattle.painting.specs.Masked.{masked, maskedColor}
-use Rattle.bands.specs.declared.LegendBand.{LegendBand}
+use Rattle.legend_band.specs.declared.LegendBand.{LegendBand}
 use Rattle.bands.specs.PlainRule.{plainColor}
 use Rattle.band_lanes.specs.LaneRule.{laneColors}
 use Rattle.banded_words.specs.declared.BandedPaint.{BandedPaint}

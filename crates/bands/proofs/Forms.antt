@@ -12,8 +12,8 @@ use Rattle.lists.specs.Tabulate.{tabulate}
 use Rattle.lists.proofs.Tabulated.{length-tabulate, getD-tabulate}
 use Rattle.colormapper.specs.declared.UnmappableColors.{UnmappableColors}
 use Rattle.colormapper.specs.Tolerance.{within}
-use Rattle.bands.specs.declared.LegendBand.{LegendBand}
-use Rattle.bands.specs.Band.{holds, lastOf}
+use Rattle.legend_band.specs.declared.LegendBand.{LegendBand}
+use Rattle.legend_band.specs.Band.{holds, lastOf}
 use Rattle.bands.specs.PlainRule.{Rule, band, lowerEdge, upperEdge, low, high, gap, firstBand, edges, plainRule, bandColor, ruleColor, plainColor}
 use Rattle.bands.specs.Packed.{bandAt, packed}
 use Rattle.bands.specs.Parts.{firstColor, edgeColor}

@@ -1,4 +1,3 @@
-pub mod Band
 pub mod PlainRule
 pub mod Packed
 pub mod Parts

@@ -4,7 +4,7 @@ use mathlib.Core.List.{List}
 use lib.Ieee.{Float, nan}
 use lib.ListN.{getD}
 use Rattle.lists.specs.Tabulate.{tabulate}
-use Rattle.bands.specs.declared.LegendBand.{LegendBand}
+use Rattle.legend_band.specs.declared.LegendBand.{LegendBand}
 
 -- the band at k
 abbrev pub bandAt : (starts ends : List Float) (colors : List ℕ) → ℕ → LegendBand

@@ -5,8 +5,8 @@ use mathlib.Core.List.{List, [], _∷_}
 use lib.Ieee.{Float, lt}
 use Rattle.colormapper.specs.declared.UnmappableColors.{UnmappableColors}
 use Rattle.colormapper.specs.Tolerance.{within}
-use Rattle.bands.specs.declared.LegendBand.{LegendBand}
-use Rattle.bands.specs.Band.{holds, lastOf}
+use Rattle.legend_band.specs.declared.LegendBand.{LegendBand}
+use Rattle.legend_band.specs.Band.{holds, lastOf}
 
 pub data Rule : Type 0 where
   band : ℕ → Rule

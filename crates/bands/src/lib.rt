@@ -1,8 +1,10 @@
-// Lists of bands: one band of a banded legend, and the colour of a sample by a list of them (docs/RULES.md, "Banded").
+// The colour of a sample by a list of bands, plainly (docs/RULES.md, "Banded").
 //
 // A list comes as three arrays and a count: an array of records cannot be lent, and one by value would be copied for each
 // sample. Every function here asks for a count of at most 64: its callers have refused a larger one (16) before.
+use banded::Banded;
 use colormapper::UnmappableColors;
+use legend_band::LegendBand;
 ghost use mathlib.Core.Path.{_≡_};
 ghost use mathlib.Core.Bool.{cond};
 ghost use Prim.Native.Nat.{_≤_, _<_};
@@ -10,29 +12,10 @@ ghost use lib.Ieee.{nan};
 ghost use lib.ListN.{getD};
 ghost use Rattle.lists.specs.Lanes.{Lanes};
 ghost use Rattle.colormapper.specs.Tolerance.{within};
-ghost use Rattle.bands.specs.Band.{holds};
+ghost use Rattle.legend_band.specs.Band.{holds};
 ghost use Rattle.bands.specs.Packed.{bandAt, packed};
 ghost use Rattle.bands.specs.PlainRule.{plainColor};
 ghost use Rattle.bands.specs.Parts.{firstColor, edgeColor};
-
-// A band: from its start up to, but not at, its end.
-#[repr(C)]
-pub struct LegendBand {
-    pub start: f32,
-    pub end: f32,
-    pub color: u32,
-}
-
-impl LegendBand {
-    // How near an edge still counts as at the edge.
-    pub const EDGE_TOLERANCE: f32 = 1e-4;
-
-    pub fn holds(self, value: f32) -> bool
-        ensures { λ r. ⌜ r ≡ holds self value ⌝ }
-    {
-        (value >= self.start) & (value < self.end)
-    }
-}
 
 // ---- the plain rule
 
@@ -167,5 +150,5 @@ pub fn is_within(edge: f32, value: f32) -> bool
     ensures { λ r. ⌜ r ≡ within edge value ⌝ }
 {
     let d = value - edge;
-    (d < LegendBand::EDGE_TOLERANCE) & (-d < LegendBand::EDGE_TOLERANCE)
+    (d < Banded::EDGE_TOLERANCE) & (-d < Banded::EDGE_TOLERANCE)
 }

@@ -2,13 +2,13 @@
 use band_lists::ValueRanges;
 use banded::Banded;
 use banded::MadeBanded;
-use bands::LegendBand;
 use c_records::record;
 use c_records::record::LegendMade;
 use c_settings::refusals;
 use c_settings::settings;
 use c_settings::settings::LegendSettings;
 use colormap::ProcessedColorMap;
+use legend_band::LegendBand;
 ghost use mathlib.Core.Path.{_≡_};
 ghost use Rattle.colormap.specs.Positions.{rampColors};
 ghost use Rattle.linear.specs.Made.{linearOfRamp, linearOfList};

@@ -25,7 +25,7 @@ use Rattle.catgegoric.specs.declared.MadeCategoric.{MadeCategoric}
 use Rattle.sorted_keys.specs.Categories.{Category, categories, keysOf, colorsOf}
 use Rattle.key_lists.specs.Whole.{whole}
 use Rattle.lookup_table.specs.Table.{tableSize, table}
-use Rattle.key_lists.specs.Range.{rangeCount, tooWide, isLength}
+use Rattle.key_lists.specs.Range.{rangeCount, tooWide, countIs}
 use Rattle.key_lists.specs.Keys.{keysRefusal}
 use Rattle.sorted_keys.specs.Steps.{Holds}
 use Rattle.catgegoric.specs.Made.{emptyCategoric, recordOf, madeUnless, manyRefusal, valuesRefusal, wideRefusal, rangeRefusal}
@@ -86,8 +86,8 @@ wide-checks start end =
 pub range-checks : (start end : ℤ) (colors : ℕ) → Checks (rangeRefusal start end colors)
 unfolding rangeRefusal
 range-checks start end colors =
-    then (wideRefusal start end) (refuseIf (not (isLength (rangeCount start end) colors)) ColorCountDiffers)
-    (wide-checks start end) (check (not (isLength (rangeCount start end) colors)) ColorCountDiffers)
+    then (wideRefusal start end) (refuseIf (not (countIs (rangeCount start end) colors)) ColorCountDiffers)
+    (wide-checks start end) (check (not (countIs (rangeCount start end) colors)) ColorCountDiffers)
 
 module _ (F : Answer → Answer) (checks : Checks F) (rest : Answer) where
   -- what they refuse stays
@@ -140,17 +140,17 @@ module _ (start end : ℤ) (e : wideRefusal start end Done ≡ Done) where
   wide-few = up-to (rangeCount start end) 256 (passed (ltZ (pos 256) (rangeCount start end)) TooManyCategories Done (wide-clear .1) .0)
 
 module _ (start end : ℤ) (colors : ℕ) (e : rangeRefusal start end colors Done ≡ Done) where
-  range-clear : (wideRefusal start end Done ≡ Done) × (refuseIf (not (isLength (rangeCount start end) colors)) ColorCountDiffers Done ≡ Done)
+  range-clear : (wideRefusal start end Done ≡ Done) × (refuseIf (not (countIs (rangeCount start end) colors)) ColorCountDiffers Done ≡ Done)
   unfolding rangeRefusal
-  range-clear = all-clear (wideRefusal start end) (wide-checks start end) (refuseIf (not (isLength (rangeCount start end) colors)) ColorCountDiffers Done) e
+  range-clear = all-clear (wideRefusal start end) (wide-checks start end) (refuseIf (not (countIs (rangeCount start end) colors)) ColorCountDiffers Done) e
 
   pub range-wide : wideRefusal start end Done ≡ Done
   range-wide = range-clear .0
 
   pub range-match : whole (rangeCount start end) ≡ colors
-  range-match = same (rangeCount start end) (not-false (isLength (rangeCount start end) colors) (passed (not (isLength (rangeCount start end) colors)) ColorCountDiffers Done (range-clear .1) .0))
+  range-match = same (rangeCount start end) (not-false (countIs (rangeCount start end) colors) (passed (not (countIs (rangeCount start end) colors)) ColorCountDiffers Done (range-clear .1) .0))
     where
-      same : (z : ℤ) → isLength z colors ≡ true → whole z ≡ colors
+      same : (z : ℤ) → countIs z colors ≡ true → whole z ≡ colors
       same (pos n) h = eqb-true n colors h
       same (negsuc n) h = absurd (true≢false (sym h))
 

@@ -21,7 +21,7 @@ use Rattle.sorted_keys.specs.Categories.{Category, categories, keysOf, colorsOf
 use Rattle.key_lists.specs.Whole.{whole}
 use Rattle.lookup_table.specs.Table.{tableSize, table}
 use Rattle.key_lists.specs.Keys.{keysRefusal}
-use Rattle.key_lists.specs.Range.{rangeCount, tooWide, isLength, rangeKeys}
+use Rattle.key_lists.specs.Range.{rangeCount, tooWide, countIs, rangeKeys}
 
 abbrev pub emptyCategoric : CategoricNumeric
 emptyCategoric = record { keys = replicate 256 (pos 0); colors = replicate 256 0; count = 0; lookup = replicate 513 0; «lookup_count» = 0 }
@@ -67,7 +67,7 @@ wideRefusal start end rest = refuseIf (tooWide start end) RangeTooWide (refuseIf
 
 -- 12; 11; 9 the list's length differs from the count
 unfoldable pub rangeRefusal : (start end : ℤ) (colors : ℕ) → Answer → Answer
-rangeRefusal start end colors rest = wideRefusal start end (refuseIf (not (isLength (rangeCount start end) colors)) ColorCountDiffers rest)
+rangeRefusal start end colors rest = wideRefusal start end (refuseIf (not (countIs (rangeCount start end) colors)) ColorCountDiffers rest)
 
 -- 12; 11; 9; 17
 abbrev pub forValueRange : (start end : ℤ) (colors : List ℕ) → MadeCategoric

@@ -134,7 +134,7 @@ fn range_refusal(start: i64, end: i64, colors: usize) -> Answer
     if let Answer::Refused(_) = answer {
         return answer;
     }
-    if key_lists::is_length(key_lists::range_count(start, end), colors) {
+    if key_lists::count_is(key_lists::range_count(start, end), colors) {
         return answer;
     }
     Answer::Refused(Refusal::ColorCountDiffers)

@@ -1,7 +1,7 @@
 -- The claim over the cases: antt works each out. Assumes nothing.
 use lib.Dec.{T}
 use lib.Ieee.{add, sub, lt, le, ofBits, isNan}
-use Rattle.bands.specs.Band.{lastOf}
+use Rattle.legend_band.specs.Band.{lastOf}
 use Rattle.bands.specs.PlainRule.{firstBand, edges, plainRule, bandColor, ruleColor}
 use Rattle.lane_edges.specs.Edges.{edged}
 use Rattle.band_lanes.specs.LaneRule.{scanned, laneColors}

@@ -7,8 +7,8 @@ use lib.ListN.{replicate}
 use Rattle.floats.specs.RampIndex.{nought}
 use Rattle.lists.specs.Padded.{padded}
 use Rattle.colormapper.specs.Settings.{noSettings}
-use Rattle.bands.specs.declared.LegendBand.{LegendBand}
-use Rattle.bands.specs.Band.{lastOf}
+use Rattle.legend_band.specs.declared.LegendBand.{LegendBand}
+use Rattle.legend_band.specs.Band.{lastOf}
 use Rattle.band_lanes.specs.Sound.{eachBand, eachAfter, eachNext, firstAndLast}
 use Rattle.band_lanes.proofs.Ordering.{ordered-disjoint}
 use Rattle.banded.specs.Record.{bandedOf}

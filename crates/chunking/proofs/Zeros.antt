@@ -25,8 +25,8 @@ use Rattle.colormapper.specs.Unmappable.{isNodata, unmappable}
 use Rattle.interpolate.specs.Fraction.{fraction, plainFraction}
 use Rattle.lookup.specs.Entries.{plainEntry, laneEntry}
 use Rattle.linear_rule.specs.Rule as linear
-use Rattle.bands.specs.declared.LegendBand.{LegendBand}
-use Rattle.bands.specs.Band.{holds, lastOf}
+use Rattle.legend_band.specs.declared.LegendBand.{LegendBand}
+use Rattle.legend_band.specs.Band.{holds, lastOf}
 use Rattle.bands.specs.Parts.{firstColor, edgeColor}
 use Rattle.bands.specs.PlainRule as bands
 use Rattle.bands.proofs.Forms.{plain-form, edge-chain}

@@ -6,7 +6,7 @@ use lib.Dec.{eqb}
 use lib.Ieee.{Float, binary32, ofBits}
 use lib.ListN.{getD}
 use Rattle.colormapper.specs.declared.UnmappableColors.{UnmappableColors}
-use Rattle.bands.specs.declared.LegendBand.{LegendBand}
+use Rattle.legend_band.specs.declared.LegendBand.{LegendBand}
 use Rattle.bands.specs.PlainRule.{plainColor}
 use Rattle.band_lanes.specs.LaneRule.{laneColors}
 use Rattle.band_lanes.specs.Sound.{startsBelowEnd, clears, wideBand, eachBand, eachNext, firstAndLast}

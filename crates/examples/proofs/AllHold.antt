@@ -12,7 +12,7 @@ use Rattle.lookup.specs.Entries.{plainEntry, laneEntry}
 use Rattle.colormap.specs.Positions.{step, position, rampColors}
 use Rattle.colormapper.specs.Unmappable.{unmappable}
 use Rattle.linear_rule.specs.Rule as linear
-use Rattle.bands.specs.Band.{lastOf}
+use Rattle.legend_band.specs.Band.{lastOf}
 use Rattle.bands.specs.PlainRule.{firstBand, edges, plainRule, bandColor, ruleColor}
 use Rattle.lane_edges.specs.Edges.{edged}
 use Rattle.band_lanes.specs.LaneRule.{scanned, laneColors}

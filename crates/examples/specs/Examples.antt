@@ -19,7 +19,7 @@ use Rattle.colormapper.specs.declared.UnmappableColors.{UnmappableColors}
 use Rattle.colormapper.specs.Unmappable.{unmappable}
 use Rattle.painting.specs.Masked.{maskedColor}
 use Rattle.linear_rule.specs.Rule as linear
-use Rattle.bands.specs.declared.LegendBand.{LegendBand}
+use Rattle.legend_band.specs.declared.LegendBand.{LegendBand}
 use Rattle.bands.specs.PlainRule as bands
 use Rattle.band_lanes.specs.LaneRule.{laneColors}
 use Rattle.band_lists.specs.Places.{blankBand}

@@ -11,7 +11,7 @@ use lib.Signed.{mag, ltZ, leZ}
 use Rattle.lists.specs.Tabulate.{tabulate}
 use Rattle.lists.proofs.Tabulated.{length-tabulate}
 use Rattle.key_lists.specs.Whole.{whole}
-use Rattle.key_lists.specs.Range.{rangeCount, inI64, tooWide, isLength, rangeKeys}
+use Rattle.key_lists.specs.Range.{rangeCount, inI64, tooWide, countIs, rangeKeys}
 use Rattle.key_lists.proofs.Numbers.{below, lt-yes, lt-no, le-yes, le-no, yes-le, no-le, sum, difference, both}
 
 -- ---- the numbers that fit
@@ -120,11 +120,11 @@ unfolding rangeKeys
 keys-are start end s e n p q h = ap (λ (m : ℕ). tabulate m (λ k. s +ℤ pos k)) h ∙ ap₂ (λ (x y : ℤ). tabulate (whole (rangeCount x y)) (λ k. x +ℤ pos k)) p q
 
 -- ---- a count as a length
-pub negative-length : (z : ℤ) (n : ℕ) → ltZ z (pos 0) ≡ true → false ≡ isLength z n
+pub negative-length : (z : ℤ) (n : ℕ) → ltZ z (pos 0) ≡ true → false ≡ countIs z n
 negative-length (pos m) n e = absurd (omega (arith, lt-yes (pos m) (pos 0) e))
 negative-length (negsuc m) n e = refl
 
-pub cast-length : (z : ℤ) (n : ℕ) → below z ≡ 0 → eqb (natAbs z) n ≡ isLength z n
+pub cast-length : (z : ℤ) (n : ℕ) → below z ≡ 0 → eqb (natAbs z) n ≡ countIs z n
 cast-length (pos m) n e = refl
 cast-length (negsuc m) n e = absurd (omega arith)
 

@@ -20,10 +20,10 @@ inI64 z = leZ (negsuc 9223372036854775807) z && leZ z (pos 9223372036854775807)
 unfoldable pub tooWide : (start end : ℤ) → Bool
 tooWide start end = not (inI64 (end -ℤ start) && inI64 (rangeCount start end))
 
--- a count that is the length of a list; one below 0 is none's
-abbrev pub isLength : ℤ → ℕ → Bool
-isLength (pos n) length = eqb n length
-isLength (negsuc n) length = false
+-- whether a count is how many are given; one below 0 never is
+abbrev pub countIs : (count : ℤ) (given : ℕ) → Bool
+countIs (pos n) given = eqb n given
+countIs (negsuc n) given = false
 
 -- start, start + 1, .. up to end
 unfoldable pub rangeKeys : (start end : ℤ) → List ℤ

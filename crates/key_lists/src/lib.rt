@@ -11,7 +11,7 @@ ghost use lib.ListN.{length, take};
 ghost use Rattle.lists.specs.Padded.{padded};
 ghost use Rattle.lists.specs.Tabulate.{tabulate};
 ghost use Rattle.key_lists.specs.Whole.{whole};
-ghost use Rattle.key_lists.specs.Range.{rangeCount, tooWide, isLength};
+ghost use Rattle.key_lists.specs.Range.{rangeCount, tooWide, countIs};
 ghost use Rattle.key_lists.specs.Keys.{outside, keysRefusal};
 
 // The values, then zeros.
@@ -48,13 +48,14 @@ pub fn range_count(start: i64, end: i64) -> i64
     end - start + 1
 }
 
-pub fn is_length(count: i64, length: usize) -> bool
-    ensures { λ r. ⌜ r ≡ isLength count length ⌝ }
+// Whether a count is how many are given.
+pub fn count_is(count: i64, given: usize) -> bool
+    ensures { λ r. ⌜ r ≡ countIs count given ⌝ }
 {
     if count < 0 {
         return false;
     }
-    count as usize == length
+    count as usize == given
 }
 
 // How many keys a range has.

@@ -1,3 +1,3 @@
--- What the proofs of this crate share.
-mod Steps
-mod Sought
+-- The search by its steps, and that it finds a sample's key among narrowed keys.
+pub mod Steps
+pub mod Sought

@@ -23,7 +23,8 @@ use Rattle.categories.proofs.FirstKey.{eqZ→eq, same-key, found-at, found-nowh
 use Rattle.narrow_keys.specs.Searchable.{near}
 use Rattle.narrow_keys.specs.Narrow.{Narrow, none, keyOf}
 use Rattle.narrow_keys.proofs.NearKeys.{they-ascend, they-are-near, near-below, none-is-not, key-below}
-use Rattle.key_search.proofs.Steps.{Rising, Narrowed}
+use Rattle.key_search.specs.Halving.{colorAtEnd, searchColor}
+use Rattle.key_search.proofs.Steps.{Rising, Narrowed, end-narrowed}
 
 module _ (keys : List ℤ) (count : ℕ) (narrow : List ℤ) (n : Narrow keys count narrow) where
   abbrev key : ℕ → ℤ
@@ -109,11 +110,11 @@ module _ (keys : List ℤ) (count : ℕ) (narrow : List ℤ) (n : Narrow keys co
       go false f = far none none-is-not ∙ sym (far z f)
   by-rule Outside = far none none-is-not
 
-  -- ---- the colour of a sample whose key is y
-  pub sample-color : (v : Float) {y : ℤ} {place : ℕ} → y ≡ keyOf (truncated v) → Narrowed narrow y 1 place → (colors : List ℕ) (nodata : ℕ) → cond (eqZ (at place) y) (getD colors place 0) nodata ≡ keyColor keys colors count nodata v
+  -- ---- the colour of a sample
+  at-end : (z : ℤ) → T (ltZ z (pos 2147483647)) → (colors : List ℕ) (nodata : ℕ) → colorAtEnd narrow colors nodata z ≡ ruleColor [] colors nodata (firstKey keys z 0 count)
+  unfolding colorAtEnd
+  at-end z low colors nodata = looked-up z low _ (end-narrowed narrow z rising) colors nodata
+
+  pub sample-color : (colors : List ℕ) (nodata : ℕ) (v : Float) → searchColor narrow colors nodata v ≡ keyColor keys colors count nodata v
   unfolding keyColor
-  sample-color v {y} {place} e p colors nodata =
-      let low = subst (λ (x : ℤ). T (ltZ x (pos 2147483647))) (sym e) (key-below (truncated v)) in
-      looked-up y low place p colors nodata
-      ∙ ap (λ (x : ℤ). ruleColor [] colors nodata (firstKey keys x 0 count)) e
-      ∙ ap (ruleColor [] colors nodata) (by-rule (truncated v))
+  sample-color colors nodata v = at-end (keyOf (truncated v)) (key-below (truncated v)) colors nodata ∙ ap (ruleColor [] colors nodata) (by-rule (truncated v))

@@ -1,6 +1,6 @@
 -- A search among 256 numbers that do not descend: its first step, and those by halving. Assumes nothing.
-use mathlib.Core.Path.{_≡_, refl, sym, subst, ap₂, _∙_}
-use mathlib.Core.Bool.{Bool, true, false, not}
+use mathlib.Core.Path.{_≡_, refl, sym, subst, ap, ap₂, _∙_}
+use mathlib.Core.Bool.{Bool, true, false, not, cond}
 use mathlib.Core.List.{List}
 use mathlib.Core.Logic.{⊎-elim}
 use Prim.Native.Nat.{ℕ, suc, _+_, _*_, _^_, _≤_, _<_}
@@ -14,7 +14,8 @@ use mir.Syntax.{w32}
 use mir.Val.{boolByte, toZ, ofZ, SFits}
 use mir.ValLaws.{toZ-ofZ}
 use Rattle.categories.proofs.Ascent.{lt-le, not-le, lt-apart}
-use Rattle.key_search.specs.Halving.{reaches, leading, half}
+use Rattle.categories.specs.Rule.{eqZ}
+use Rattle.key_search.specs.Halving.{reaches, leading, half, ended, colorAtEnd}
 
 -- of the numbers only the `width` ones from `place` on can be z: those from there on are above z, and the one at the place
 -- is not, unless it is the first
@@ -105,21 +106,30 @@ module _ (narrow : List ℤ) (z : ℤ) (up : Rising narrow) where
     unfolding half
     one-step {r} e = subst (Narrowed narrow z step) (sym e) (by-flag (leZ (at (place + step)) z) (λ t. t) (λ t. t))
 
-  pub five-steps :
-      {a b c d e f : ℕ}
-      → Narrowed narrow z 32 a
-      → b ≡ half narrow 16 z a
-      → c ≡ half narrow 8 z b
-      → d ≡ half narrow 4 z c
-      → e ≡ half narrow 2 z d
-      → f ≡ half narrow 1 z e
-      → Narrowed narrow z 1 f
-  five-steps {a} {b} {c} {d} {e} {f} n p1 p2 p3 p4 p5 =
-      let n1 = one-step 16 a n p1 in
-      let n2 = one-step 8 b n1 p2 in
-      let n3 = one-step 4 c n2 p3 in
-      let n4 = one-step 2 d n3 p4 in
-      one-step 1 e n4 p5
+  -- the first step and five halvings leave one place
+  pub end-narrowed : Narrowed narrow z 1 (ended narrow z)
+  unfolding ended
+  end-narrowed =
+      let n1 = one-step 16 _ (leading-step refl) refl in
+      let n2 = one-step 8 _ n1 refl in
+      let n3 = one-step 4 _ n2 refl in
+      let n4 = one-step 2 _ n3 refl in
+      one-step 1 _ n4 refl
+
+-- the colour by the places that the steps give
+pub color-at-end :
+    (narrow : List ℤ) (colors : List ℕ) (nodata : ℕ) (z : ℤ) {a b c d e f : ℕ}
+    → a ≡ leading narrow z
+    → b ≡ half narrow 16 z a
+    → c ≡ half narrow 8 z b
+    → d ≡ half narrow 4 z c
+    → e ≡ half narrow 2 z d
+    → f ≡ half narrow 1 z e
+    → cond (eqZ (getD narrow f (pos 0)) z) (getD colors f 0) nodata ≡ colorAtEnd narrow colors nodata z
+unfolding colorAtEnd ended
+color-at-end narrow colors nodata z p0 p1 p2 p3 p4 p5 =
+    ap (λ (n : ℕ). cond (eqZ (getD narrow n (pos 0)) z) (getD colors n 0) nodata)
+    (p5 ∙ ap (half narrow 1 z) (p4 ∙ ap (half narrow 2 z) (p3 ∙ ap (half narrow 4 z) (p2 ∙ ap (half narrow 8 z) (p1 ∙ ap (half narrow 16 z) p0)))))
 
 -- a step stays within the places
 pub step-fits : (place step : ℕ) (t : Bool) → place + step * 2 ≤ 256 → (step * boolByte t < 2 ^ 32) × (place + step * boolByte t < 2 ^ 32)

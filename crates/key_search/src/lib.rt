@@ -2,26 +2,24 @@
 // to i32 first (`narrow_keys`).
 ghost use mathlib.Core.Path.{_≡_};
 ghost use mathlib.Core.Bool.{cond};
-ghost use mathlib.Core.List.{List};
-ghost use Prim.Native.Nat.{ℕ, _*_, _<_, _≤_};
+ghost use Prim.Native.Nat.{_*_, _<_, _≤_};
 ghost use lib.Ieee.{nan};
-ghost use lib.IntN.{ℤ, pos};
+ghost use lib.IntN.{pos};
 ghost use lib.ListN.{getD};
 ghost use lib.Signed.{leZ};
 ghost use mir.Val.{boolByte};
-ghost use Rattle.categories.specs.Rule.{eqZ, keyColor};
+ghost use Rattle.categories.specs.Rule.{eqZ};
 ghost use Rattle.lists.specs.Lanes.{Lanes};
-ghost use Rattle.narrow_keys.specs.Narrow.{Narrow};
-ghost use Rattle.key_search.specs.Halving.{leading, half, Within};
+ghost use Rattle.key_search.specs.Halving.{leading, half, searchColor, Within};
 
-// The colours of sixteen samples, by the keys: one step to the 32 places of 256 among which a key can be, and five halvings.
+// The colours of sixteen samples, by any 256 numbers: one step to the 32 places among which a key can be, and five halvings.
 pub fn colors_for_numeric_values(
     narrow: &[i32; 256],
     colors: &[u32; 256],
     nodata: u32,
     value: [f32; 16],
 ) -> [u32; 16]
-    ensures { λ r. ⌜ ((keys : List ℤ) (count : ℕ) → Narrow keys count (now (narrow .entry)) → Lanes 0 16 r (λ k. keyColor keys (now (colors .entry)) count nodata (getD value k nan))) ⌝ }
+    ensures { λ r. ⌜ Lanes 0 16 r (λ k. searchColor (now (narrow .entry)) (now (colors .entry)) nodata (getD value k nan)) ⌝ }
 {
     let key = narrow_keys::narrowed_samples(value);
     let a = leading_places(narrow, key);

@@ -4,7 +4,7 @@ use mathlib.Core.Bool.{Bool, false, cond}
 use lib.Ieee.{Float, lt}
 use Rattle.colormapper.specs.declared.UnmappableColors.{UnmappableColors}
 use Rattle.colormapper.specs.Tolerance.{within}
-use Rattle.bands.specs.declared.LegendBand.{LegendBand}
+use Rattle.legend_band.specs.declared.LegendBand.{LegendBand}
 
 -- a lane: its value, whether it lies in some band so far, and its colour so far
 pub record Lane : Type 0 where

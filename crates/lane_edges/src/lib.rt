@@ -1,6 +1,6 @@
 // The edges of the lane rule: the colours of a chunk that no band of a list finished (docs/RULES.md, "Banded").
-use bands::LegendBand;
 use colormapper::UnmappableColors;
+use legend_band::LegendBand;
 ghost use mathlib.Core.Path.{_≡_};
 ghost use Prim.Native.Nat.{_≤_};
 ghost use lib.Ieee.{nan};

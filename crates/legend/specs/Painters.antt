@@ -14,7 +14,7 @@ use Rattle.painting.specs.Masked.{painterOf}
 use Rattle.linear.specs.declared.Linear.{Linear}
 use Rattle.linear.specs.Made.{linearColors}
 use Rattle.linear_rule.specs.Rule as linear
-use Rattle.bands.specs.declared.LegendBand.{LegendBand}
+use Rattle.legend_band.specs.declared.LegendBand.{LegendBand}
 use Rattle.bands.specs.PlainRule as bands
 use Rattle.band_lanes.specs.LaneRule as lanes
 use Rattle.banded.specs.declared.Banded.{Banded}

@@ -22,7 +22,8 @@ pub struct MadeLinear {
 }
 
 impl Linear {
-    pub const EDGE_TOLERANCE: f32 = linear_rule::EDGE_TOLERANCE;
+    // How far out of the range a sample is still looked up.
+    pub const EDGE_TOLERANCE: f32 = 1e-4;
 
     // No range, and a ramp that is TRANSPARENT throughout.
     pub fn default() -> Linear

@@ -1,5 +1,6 @@
 // The rule of a linear legend at a mappable sample, plainly and in lanes (docs/RULES.md, "Linear").
 use colormapper::UnmappableColors;
+use linear::Linear;
 ghost use mathlib.Core.Path.{_≡_};
 ghost use mathlib.Core.Bool.{cond};
 ghost use Prim.Native.Nat.{_≤_};
@@ -9,9 +10,6 @@ ghost use Rattle.floats.specs.RampIndex.{nought};
 ghost use Rattle.lists.specs.Lanes.{LanesOf};
 ghost use Rattle.interpolate.specs.Fraction.{plainFraction};
 ghost use Rattle.linear_rule.specs.Rule.{byRange, plainColor, laneColor};
-
-// How far out of the range a sample is still looked up.
-pub const EDGE_TOLERANCE: f32 = 1e-4;
 
 // ---- the plain rule
 
@@ -127,7 +125,7 @@ fn in_ranges(
 fn in_range(start: f32, end: f32, u: UnmappableColors, value: f32, color: u32) -> u32
     ensures { λ r. ⌜ r ≡ byRange start end value (u .low) (u .high) color ⌝ }
 {
-    let below = value < start - EDGE_TOLERANCE;
-    let above = value > end + EDGE_TOLERANCE;
+    let below = value < start - Linear::EDGE_TOLERANCE;
+    let above = value > end + Linear::EDGE_TOLERANCE;
     select::pick(below, u.low, select::pick(above, u.high, color))
 }

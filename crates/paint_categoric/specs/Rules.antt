@@ -6,7 +6,12 @@ use lib.Ieee.{Float}
 use Rattle.colormapper.specs.Unmappable.{excluded}
 use Rattle.painting.specs.Masked.{maskedColor}
 use Rattle.categories.specs.Rule.{keyColor}
+use Rattle.key_search.specs.Halving.{searchColor}
 use Rattle.paint_by_table.specs.declared.CategoricPaint.{CategoricPaint}
 
 abbrev pub keySample : (keys : List ℤ) (colors : List ℕ) (count : ℕ) → CategoricPaint → Float → ℕ
 keySample keys colors count p = maskedColor (excluded (p .exclusions)) (p .nodata) (keyColor keys colors count (p .nodata))
+
+-- by the search among 256 numbers, whatever they are
+abbrev pub searchSample : (narrow : List ℤ) (colors : List ℕ) → CategoricPaint → Float → ℕ
+searchSample narrow colors p = maskedColor (excluded (p .exclusions)) (p .nodata) (searchColor narrow colors (p .nodata))

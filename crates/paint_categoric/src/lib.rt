@@ -3,13 +3,11 @@
 // words are kept: one by one is slower.
 use paint_by_table::CategoricPaint;
 ghost use mathlib.Core.Path.{_≡_};
-ghost use mathlib.Core.List.{List, map, _++_};
-ghost use Prim.Native.Nat.{ℕ, _+_, _≤_};
-ghost use lib.IntN.{ℤ};
+ghost use mathlib.Core.List.{map, _++_};
+ghost use Prim.Native.Nat.{_+_, _≤_};
 ghost use lib.ListN.{length, take, drop};
 ghost use Rattle.painting.specs.Painted.{plainPainted, chunkOver};
-ghost use Rattle.narrow_keys.specs.Narrow.{Narrow};
-ghost use Rattle.paint_categoric.specs.Rules.{keySample};
+ghost use Rattle.paint_categoric.specs.Rules.{keySample, searchSample};
 
 // ---- by keys that can be searched: the words of a block, a block of a raster, the samples after the last block, and a raster
 
@@ -19,7 +17,7 @@ fn words_by_search(
     p: CategoricPaint,
     v: [f32; 16],
 ) -> [u32; 16]
-    ensures { λ d. ⌜ ((keys : List ℤ) (count : ℕ) → Narrow keys count (now (narrow .entry)) → take 16 d ≡ map (keySample keys (now (colors .entry)) count p) (take 16 v)) ⌝ }
+    ensures { λ d. ⌜ take 16 d ≡ map (searchSample (now (narrow .entry)) (now (colors .entry)) p) (take 16 v) ⌝ }
 {
     let c = key_search::colors_for_numeric_values(narrow, colors, p.nodata, v);
     p.exclusions.masked_simd(16, v, p.nodata, c)
@@ -34,7 +32,7 @@ fn block_by_search(
     out: &mut [u32],
 )
     requires { ⌜ (base + 16 ≤ length (now src)) × (base + 16 ≤ length (now out)) ⌝ }
-    ensures { λ _. ⌜ ((keys : List ℤ) (count : ℕ) → Narrow keys count (now (narrow .entry)) → now (out .exit) ≡ chunkOver (map (keySample keys (now (colors .entry)) count p)) (now (src .entry)) (now (out .entry)) base 16) ⌝ }
+    ensures { λ _. ⌜ now (out .exit) ≡ chunkOver (map (searchSample (now (narrow .entry)) (now (colors .entry)) p)) (now (src .entry)) (now (out .entry)) base 16 ⌝ }
 {
     let v = painting::load(16, src, base);
     painting::store(16, words_by_search(narrow, colors, p, v), base, out);
@@ -49,7 +47,7 @@ fn rest_by_search(
     out: &mut [u32],
 )
     requires { ⌜ (base ≤ length (now src)) × (length (now src) ≤ base + 16) × (length (now out) ≡ length (now src)) ⌝ }
-    ensures { λ _. ⌜ ((keys : List ℤ) (count : ℕ) → Narrow keys count (now (narrow .entry)) → now (out .exit) ≡ take base (now (out .entry)) ++ map (keySample keys (now (colors .entry)) count p) (drop base (now (src .entry)))) ⌝ }
+    ensures { λ _. ⌜ now (out .exit) ≡ take base (now (out .entry)) ++ map (searchSample (now (narrow .entry)) (now (colors .entry)) p) (drop base (now (src .entry))) ⌝ }
 {
     let m = src.len() - base;
     if m == 0 {
@@ -67,7 +65,7 @@ fn paint_by_search(
     out: &mut [u32],
 )
     requires { ⌜ length (now out) ≡ length (now src) ⌝ }
-    ensures { λ _. ⌜ ((keys : List ℤ) (count : ℕ) → Narrow keys count (now (narrow .entry)) → now (out .exit) ≡ plainPainted (keySample keys (now (colors .entry)) count p) (now (src .entry))) ⌝ }
+    ensures { λ _. ⌜ now (out .exit) ≡ plainPainted (searchSample (now (narrow .entry)) (now (colors .entry)) p) (now (src .entry)) ⌝ }
 {
     let n = src.len();
     let mut base: usize = 0;

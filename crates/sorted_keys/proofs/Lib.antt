@@ -1,3 +1,4 @@
 pub mod Rooms
 pub mod Inserting
 pub mod Ascending
+pub mod Putting

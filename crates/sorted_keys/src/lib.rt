@@ -1,10 +1,8 @@
 // Keys with colours, kept ascending in two arrays of 256: one category put in (docs/RULES.md, "Categoric").
 ghost use mathlib.Core.Path.{_≡_};
-ghost use mathlib.Core.List.{List};
 ghost use Prim.Native.Nat.{_≤_, _<_};
 ghost use lib.ListN.{length, take, set};
-ghost use Rattle.sorted_keys.specs.Categories.{Category, inserted};
-ghost use Rattle.sorted_keys.specs.Steps.{place, movedUp, Holds};
+ghost use Rattle.sorted_keys.specs.Steps.{place, movedUp, Put};
 
 // One category more, or another colour for its key; the count after it.
 pub fn insert(
@@ -15,7 +13,7 @@ pub fn insert(
     color: u32,
 ) -> usize
     requires { ⌜ (count < 256) × (length (now keys) ≡ 256) × (length (now colors) ≡ 256) ⌝ }
-    ensures { λ r. ⌜ ((cs : List Category) → Holds cs (now (keys .entry)) (now (colors .entry)) count → Holds (inserted key color cs) (now (keys .exit)) (now (colors .exit)) r) ⌝ }
+    ensures { λ r. ⌜ Put key color (now (keys .entry)) (now (colors .entry)) count (now (keys .exit)) (now (colors .exit)) r ⌝ }
 {
     let at = place_of(keys, count, key);
     if at < count {

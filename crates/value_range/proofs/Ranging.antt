@@ -19,8 +19,8 @@ use Rattle.refusal.specs.declared.Answer.{Answer}
 use Rattle.refusal.specs.declared.Answer.the-variants.{Done, Refused}
 use Rattle.refusal.specs.Outcome.{firstOf}
 use Rattle.refusal.proofs.Outcomes.{passed, not-done}
-use Rattle.bands.specs.declared.LegendBand.{LegendBand}
-use Rattle.bands.specs.Band.{lastOf}
+use Rattle.legend_band.specs.declared.LegendBand.{LegendBand}
+use Rattle.legend_band.specs.Band.{lastOf}
 use Rattle.band_columns.proofs.Outer.{last-of}
 use Rattle.lookup_table.specs.Table.{foremost, smallest, largest}
 use Rattle.key_lists.specs.Keys.{outside, outsideFrom, keysRefusal}

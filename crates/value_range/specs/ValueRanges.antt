@@ -7,8 +7,8 @@ use Rattle.floats.specs.RampIndex.{nought}
 use Rattle.refusal.specs.declared.Answer.{Answer}
 use Rattle.refusal.specs.declared.Answer.the-variants as answer
 use Rattle.refusal.specs.Outcome.{firstOf}
-use Rattle.bands.specs.declared.LegendBand.{LegendBand}
-use Rattle.bands.specs.Band.{lastOf}
+use Rattle.legend_band.specs.declared.LegendBand.{LegendBand}
+use Rattle.legend_band.specs.Band.{lastOf}
 use Rattle.band_lists.specs.declared.ValueRange.{ValueRange}
 use Rattle.banded.specs.Record.{counted}
 use Rattle.lookup_table.specs.Table.{smallest, largest}

@@ -1,8 +1,8 @@
 // The whole range of a legend's values (docs/RULES.md, "Painting").
 use band_lists::ValueRange;
-use bands::LegendBand;
 use legend::Legend;
 use legend::LegendKind;
+use legend_band::LegendBand;
 use refusal::Answer;
 use refusal::Refusal;
 ghost use mathlib.Core.Path.{_≡_};

@@ -6,7 +6,7 @@ use native.Mathlib.Omega.{arith}
 use lib.ListN.{getD}
 use lib.Ieee.{nan}
 use borrow.Author.Needs.{needs}
-use Rattle.bands.specs.Band.{holds}
+use Rattle.legend_band.specs.Band.{holds}
 use Rattle.band_lanes.specs.Parts.{allBelow}
 use Rattle.lists.proofs.LanesOf.{lanes-length}
 use Rattle.band_lanes.proofs.Updating.{Updating, updating-start, updating-turn, updating-end}

@@ -4,8 +4,8 @@ use mathlib.Core.Path.{ap₂, _≡_, sym, _∙_}
 use native.Mathlib.Omega.{arith}
 use lib.ListN.{drop}
 use borrow.Author.Needs.{needs}
-use Rattle.bands.specs.declared.LegendBand.{LegendBand}
-use Rattle.bands.specs.Band.{holds}
+use Rattle.legend_band.specs.declared.LegendBand.{LegendBand}
+use Rattle.legend_band.specs.Band.{holds}
 use Rattle.bands.specs.Packed.{bandAt, packed}
 use Rattle.bands.specs.PlainRule.{plainColor}
 use Rattle.bands.specs.Parts.{firstColor, edgeColor}

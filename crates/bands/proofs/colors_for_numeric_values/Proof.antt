@@ -4,7 +4,7 @@ use native.Mathlib.Omega.{arith}
 use lib.ListN.{getD-replicate, getD}
 use lib.Ieee.{nan}
 use borrow.Author.Needs.{needs}
-use Rattle.bands.specs.declared.LegendBand.{LegendBand}
+use Rattle.legend_band.specs.declared.LegendBand.{LegendBand}
 use Rattle.bands.specs.Packed.{packed}
 use Rattle.bands.specs.Parts.{firstColor, edgeColor}
 use Rattle.bands.proofs.Forms.{plain-none, plain-packed}

@@ -7,7 +7,7 @@ use lib.ListN.{getD, drop}
 use lib.Ieee.{nan}
 use borrow.Author.Needs.{needs}
 use Rattle.lists.specs.Lanes.{Lanes}
-use Rattle.bands.specs.Band.{holds}
+use Rattle.legend_band.specs.Band.{holds}
 use Rattle.bands.specs.Packed.{packed}
 use Rattle.bands.specs.Parts.{firstColor}
 use Rattle.bands.proofs.Forms.{first-at, first-end}

@@ -7,7 +7,7 @@ use lib.ListN.{getD}
 use lib.Ieee.{nan}
 use borrow.Author.Needs.{needs}
 use Rattle.lists.proofs.Filling.{Filling, filling-start, filling-turn, filling-end}
-use Rattle.bands.specs.Band.{holds}
+use Rattle.legend_band.specs.Band.{holds}
 use Rattle.bands.proofs.overwritten.Statement.{statement}
 use Rattle.bands.proofs.overwritten.Tie as tie
 

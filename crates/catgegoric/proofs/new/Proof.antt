@@ -13,6 +13,7 @@ use Rattle.sorted_keys.specs.Categories.{firstOf}
 use Rattle.sorted_keys.specs.Steps.{Holds}
 use Rattle.catgegoric.proofs.Making.{recorded}
 use Rattle.sorted_keys.proofs.Inserting.{holds-none, holds-next, length-firstOf, keys-long, colors-long}
+use Rattle.sorted_keys.proofs.Putting.{holds-put}
 use Rattle.key_lists.proofs.Numbers.{back}
 use Rattle.catgegoric.proofs.new.Statement.{statement}
 use Rattle.catgegoric.proofs.new.Tie as tie
@@ -55,7 +56,7 @@ loop-again c =
     let s = c .before .before .before .before .before .before .before in
     let l = c .before .before .before .before .before .before .loop in
     let k = getD (s .args .given .now) (l .i) (pos 0) in
-    let h = holds-next (s .args .n) (l .i) (s .args .given .now) (s .args .words .now) (toZ w64 (ofZ w64 k)) (c .before .before .before .before .before .loop-test .taken) (back k (c .before .before .insert-arg .given)) (c .insert .ensures (firstOf (l .i) (take (s .args .n) (s .args .given .now)) (take (s .args .n) (s .args .words .now))) (l .inv .2)) in
+    let h = holds-next (s .args .n) (l .i) (s .args .given .now) (s .args .words .now) (toZ w64 (ofZ w64 k)) (c .before .before .before .before .before .loop-test .taken) (back k (c .before .before .insert-arg .given)) (holds-put (omega arith) (l .inv .2) (c .insert .ensures)) in
     (omega arith, omega (arith, h .count-is, length-firstOf (l .i + 1) (take (s .args .n) (s .args .given .now)) (take (s .args .n) (s .args .words .now))), h)
 
 with-lookup-requires : tie.Need-with-lookup-requires Inv-loop μ-loop

@@ -6,7 +6,7 @@ use Rattle.refusal.specs.declared.Answer.the-variants.{Done, Refused}
 use Rattle.refusal.specs.declared.Refusal.the-variants.{ColorCountDiffers}
 use Rattle.refusal.specs.Outcome.{refuseIf}
 use Rattle.catgegoric.specs.Made.{wideRefusal, rangeRefusal}
-use Rattle.key_lists.specs.Range.{rangeCount, tooWide, isLength}
+use Rattle.key_lists.specs.Range.{rangeCount, tooWide, countIs}
 use Rattle.catgegoric.proofs.Making.{wide-checks, stopped, cleared, wide-narrow}
 use Rattle.key_lists.proofs.Numbers.{back, back₂}
 use Rattle.catgegoric.proofs.range_refusal.Statement.{statement}
@@ -17,12 +17,12 @@ wide-is c =
     let s = c .before in
     c .wide-refusal .ensures ∙ back₂ (λ a b. wideRefusal a b Done) (s .args .start) (s .args .end) (s .fits .start .sfits) (s .fits .end .sfits)
 
-length-is : (c : tie.After-is-length) → c .is-length .result ≡ isLength (rangeCount (c .before .before .before .before .before .args .start) (c .before .before .before .before .before .args .end)) (c .before .before .before .before .before .args .colors)
+length-is : (c : tie.After-count-is) → c .count-is .result ≡ countIs (rangeCount (c .before .before .before .before .before .args .start) (c .before .before .before .before .before .args .end)) (c .before .before .before .before .before .args .colors)
 length-is c =
     let s = c .before .before .before .before .before in
     let n = c .before .range-count in
-    c .is-length .ensures
-    ∙ ap (λ z. isLength z (s .args .colors)) (back (n .result) (n .ok) ∙ n .ensures ∙ back₂ rangeCount (s .args .start) (s .args .end) (s .fits .start .sfits) (s .fits .end .sfits))
+    c .count-is .ensures
+    ∙ ap (λ z. countIs z (s .args .colors)) (back (n .result) (n .ok) ∙ n .ensures ∙ back₂ rangeCount (s .args .start) (s .args .end) (s .fits .start .sfits) (s .fits .end .sfits))
 
 wide-refusal-requires : tie.Need-wide-refusal-requires
 wide-refusal-requires c κs = search needs
@@ -34,7 +34,7 @@ returns : tie.Need-returns
 unfolding rangeRefusal
 returns c =
     let s = c .before .before .before in
-    stopped (wideRefusal (s .args .start) (s .args .end)) (wide-checks (s .args .start) (s .args .end)) (refuseIf (not (isLength (rangeCount (s .args .start) (s .args .end)) (s .args .colors))) ColorCountDiffers Done) (wide-is (c .before .before)) (c .enum-told .given .1)
+    stopped (wideRefusal (s .args .start) (s .args .end)) (wide-checks (s .args .start) (s .args .end)) (refuseIf (not (countIs (rangeCount (s .args .start) (s .args .end)) (s .args .colors))) ColorCountDiffers Done) (wide-is (c .before .before)) (c .enum-told .given .1)
 
 enum-told-2 : tie.Need-enum-told-2
 enum-told-2 c = search needs
@@ -45,8 +45,8 @@ range-count-requires c κs =
     back₂ tooWide (s .args .start) (s .args .end) (s .fits .start .sfits) (s .fits .end .sfits)
     ∙ wide-narrow (s .args .start) (s .args .end) (sym (wide-is (c .before .before)) ∙ c .enum-told2 .given .1)
 
-is-length-requires : tie.Need-is-length-requires
-is-length-requires c κs = search needs
+count-is-requires : tie.Need-count-is-requires
+count-is-requires c κs = search needs
 
 returns-2 : tie.Need-returns-2
 unfolding rangeRefusal
@@ -70,6 +70,6 @@ range-refusal-spec =
     returns
     enum-told-2
     range-count-requires
-    is-length-requires
+    count-is-requires
     returns-2
     returns-3)

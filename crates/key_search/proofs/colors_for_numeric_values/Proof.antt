@@ -1,14 +1,13 @@
 -- `colors_for_numeric_values` meets its contract. Assumes nothing.
 use borrow.Author.Needs.{needs}
 use mathlib.Core.Bool.{cond}
-use mathlib.Core.Path.{ap₂, _∙_}
+use mathlib.Core.Path.{ap, ap₂, _∙_}
 use Prim.Native.Nat.{ℕ}
 use lib.ListN.{getD}
 use lib.IntN.{ℤ, pos}
-use lib.Ieee.{nan}
 use Rattle.categories.specs.Rule.{eqZ}
-use Rattle.key_search.proofs.Steps.{leading-step, five-steps}
-use Rattle.key_search.proofs.Sought.{rising, sample-color}
+use Rattle.key_search.specs.Halving.{colorAtEnd}
+use Rattle.key_search.proofs.Steps.{color-at-end}
 use Rattle.key_search.proofs.colors_for_numeric_values.Statement.{statement}
 use Rattle.key_search.proofs.colors_for_numeric_values.Tie as tie
 
@@ -43,7 +42,7 @@ known-requires : tie.Need-known-requires
 known-requires c κs = search needs
 
 returns : tie.Need-returns
-returns c keys count n k h =
+returns c k h =
     let s5 = c .before .before .before in
     let s4 = s5 .before in
     let s3 = s4 .before in
@@ -52,20 +51,16 @@ returns c keys count n k h =
     let s0 = s1 .before in
     let key = s0 .before .narrowed-samples in
     let a = s0 .before .before .args in
-    let narrow = a .narrow .now in
-    let z = getD (key .result) k (pos 0) in
-    let up = rising keys count narrow n in
-    let place =
-    five-steps narrow z up
-    (leading-step narrow z up (s0 .leading-places .ensures .0 k h))
+    c .known .ensures k h
+    ∙ ap₂ (λ (z : ℤ) (w : ℕ). cond (eqZ z (getD (key .result) k (pos 0))) w (a .nodata)) (c .before .before .keys-at .ensures k h) (c .before .colors-at .ensures k h)
+    ∙ color-at-end (a .narrow .now) (a .colors .now) (a .nodata) (getD (key .result) k (pos 0))
+    (s0 .leading-places .ensures .0 k h)
     (s1 .halved .ensures .0 k h)
     (s2 .halved2 .ensures .0 k h)
     (s3 .halved3 .ensures .0 k h)
     (s4 .halved4 .ensures .0 k h)
-    (s5 .halved5 .ensures .0 k h) in
-    c .known .ensures k h
-    ∙ ap₂ (λ (z : ℤ) (w : ℕ). cond (eqZ z (getD (key .result) k (pos 0))) w (a .nodata)) (c .before .before .keys-at .ensures k h) (c .before .colors-at .ensures k h)
-    ∙ sample-color keys count narrow n (getD (a .value) k nan) (key .ensures k h) place (a .colors .now) (a .nodata)
+    (s5 .halved5 .ensures .0 k h)
+    ∙ ap (colorAtEnd (a .narrow .now) (a .colors .now) (a .nodata)) (key .ensures k h)
 
 pub colors-for-numeric-values-spec : {M : Type 1} → statement M
 colors-for-numeric-values-spec =

@@ -20,12 +20,12 @@ same-length : tie.Need-same-length
 same-length c = search needs
 
 returns : tie.Need-returns
-returns c keys count n =
+returns c =
     let w = c .before .before .before .before .words-by-search in
     let l = c .before .before .before .before .before .load in
     let a = c .before .before .before .before .before .before .before .before .args in
     let part = padded-part _ 16 (a .src .now) (a .base) 16 (l .ensures) (omega arith) in
-    chunk-is _ _ _ _ _ 16 (w .result) (l .result) refl (c .before .before .store .ensures) (w .ensures keys count n) part
+    chunk-is _ _ _ _ _ 16 (w .result) (l .result) refl (c .before .before .store .ensures) (w .ensures) part
 
 pub block-by-search-spec : {M : Type 1} → statement M
 block-by-search-spec =

@@ -1,6 +1,7 @@
 -- `paint_by_keys` meets its contract. Assumes nothing.
 use borrow.Author.Needs.{needs}
 use mathlib.Core.Path.{sym, _∙_}
+use Rattle.paint_categoric.proofs.Searching.{searched-is}
 use Rattle.paint_categoric.proofs.paint_by_keys.Statement.{statement}
 use Rattle.paint_categoric.proofs.paint_by_keys.Tie as tie
 
@@ -20,7 +21,7 @@ returns : tie.Need-returns
 returns c =
     let s = c .before .before .before .before .before in
     let a = s .before .before .before .before .before .args in
-    c .before .before .paint-by-search .ensures (a .keys .now) (a .count) (s .narrowed .ensures)
+    c .before .before .paint-by-search .ensures ∙ searched-is (a .colors .now) (a .p) (a .src .now) (s .narrowed .ensures)
 
 paint-by-scan-requires : tie.Need-paint-by-scan-requires
 paint-by-scan-requires c κs = search needs

@@ -1,28 +1,26 @@
 -- `paint_by_search` meets its contract. Assumes nothing.
 use borrow.Author.Needs.{needs}
 use native.Mathlib.Omega.{arith}
-use Prim.Native.Nat.{ℕ, _-_, _≤_}
+use Prim.Native.Nat.{_-_, _≤_}
 use mathlib.Core.Path.{_≡_, refl, _∙_}
-use mathlib.Core.List.{List, map}
-use lib.IntN.{ℤ}
+use mathlib.Core.List.{map}
 use lib.ListN.{length, length-map}
 use Rattle.painting.proofs.Steps.{InChunks, chunks-start, chunk-turn, chunks-end}
 use Rattle.painting.proofs.Splitting.{plain-in-blocks}
-use Rattle.narrow_keys.specs.Narrow.{Narrow}
-use Rattle.paint_categoric.specs.Rules.{keySample}
+use Rattle.paint_categoric.specs.Rules.{searchSample}
 use Rattle.paint_categoric.proofs.paint_by_search.Statement.{statement}
 use Rattle.paint_categoric.proofs.paint_by_search.Tie as tie
 
 abbrev Inv-loop : tie.InvT-loop
 Inv-loop narrow colors p src out₀ n base₀ out base =
     (n ≡ length src) × (base ≤ n) × (length out ≡ n)
-    × ((keys : List ℤ) (count : ℕ) → Narrow keys count narrow → InChunks 16 (map (keySample keys colors count p)) (keySample keys colors count p) src base out)
+    × InChunks 16 (map (searchSample narrow colors p)) (searchSample narrow colors p) src base out
 
 abbrev μ-loop : tie.MeasureT-loop
 μ-loop narrow colors p src out₀ n base₀ out base = n - base
 
 loop-holds : tie.Need-loop-holds Inv-loop μ-loop
-loop-holds c = (refl, search needs, search needs, λ keys count s. chunks-start (search needs))
+loop-holds c = (refl, search needs, search needs, chunks-start (search needs))
 
 sub-loop : tie.Need-sub-loop Inv-loop μ-loop
 sub-loop c = search needs
@@ -41,7 +39,7 @@ loop-again c = (
   refl,
   omega arith,
   omega arith,
-  λ keys count s. chunk-turn (c .before .before .before .before .before .loop .inv .3 keys count s) (omega arith) (omega arith) (λ xs. length-map xs _) (c .before .before .block-by-search .ensures keys count s),
+  chunk-turn (c .before .before .before .before .before .loop .inv .3) (omega arith) (omega arith) (λ xs. length-map xs _) (c .before .before .block-by-search .ensures),
 )
 
 rest-by-search-requires : tie.Need-rest-by-search-requires Inv-loop μ-loop
@@ -51,9 +49,9 @@ same-length : tie.Need-same-length Inv-loop μ-loop
 same-length c = search needs
 
 returns : tie.Need-returns Inv-loop μ-loop
-returns c keys count s =
-    c .before .before .rest-by-search .ensures keys count s
-    ∙ chunks-end (c .before .before .before .before .before .loop .inv .3 keys count s) (omega arith)
+returns c =
+    c .before .before .rest-by-search .ensures
+    ∙ chunks-end (c .before .before .before .before .before .loop .inv .3) (omega arith)
     ∙ plain-in-blocks 16 _ _
 
 pub paint-by-search-spec : {M : Type 1} → statement M

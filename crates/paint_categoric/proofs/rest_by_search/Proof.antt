@@ -12,7 +12,7 @@ sub-m : tie.Need-sub-m
 sub-m c = search needs
 
 returns : tie.Need-returns
-returns c keys count n = let a = c .before .before .before .args in rest-none _ (a .src .now) (a .out .now) (a .base) (c .if1 .taken) (search needs)
+returns c = let a = c .before .before .before .args in rest-none _ (a .src .now) (a .out .now) (a .base) (c .if1 .taken) (search needs)
 
 load-requires : tie.Need-load-requires
 load-requires c κs = search needs
@@ -27,13 +27,13 @@ same-length : tie.Need-same-length
 same-length c = search needs
 
 returns-2 : tie.Need-returns-2
-returns-2 c keys count n =
+returns-2 c =
     let w = c .before .before .before .before .words-by-search in
     let l = c .before .before .before .before .before .load in
     let a = c .before .before .before .before .before .before .before .before .before .args in
     let part = padded-part _ 16 (a .src .now) (a .base) (length (a .src .now) - a .base) (l .ensures) (omega arith) in
     rest-is _ (a .src .now) (a .out .now) (a .base) 16 (w .result) (l .result) (omega arith) (omega arith) (omega arith) (c .before .before .store .ensures)
-    (w .ensures keys count n) part
+    (w .ensures) part
 
 pub rest-by-search-spec : {M : Type 1} → statement M
 rest-by-search-spec =

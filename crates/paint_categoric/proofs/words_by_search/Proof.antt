@@ -5,7 +5,7 @@ use lib.Ieee.{nan}
 use lib.ListN.{take}
 use Rattle.lists.proofs.LanesOf.{lane-at}
 use Rattle.colormapper.specs.Unmappable.{excluded}
-use Rattle.categories.specs.Rule.{keyColor}
+use Rattle.key_search.specs.Halving.{searchColor}
 use Rattle.painting.specs.Masked.{masked}
 use Rattle.painting.proofs.Lists.{lanes-list}
 use Rattle.painting.proofs.Masking.{lanes-masked, masked-map}
@@ -19,13 +19,13 @@ masked-simd-requires : tie.Need-masked-simd-requires
 masked-simd-requires c κs = search needs
 
 returns : tie.Need-returns
-returns c keys count n =
+returns c =
     let a = c .before .before .args in
     let found = c .before .colors-for-numeric-values in
     let e = excluded (a .p .exclusions) in
     lanes-masked e (a .p .nodata) 16 (c .masked-simd .result) (a .v) (found .result) (search needs) (search needs) (search needs)
     (lane-at (c .masked-simd .ensures) 0)
-    ∙ ap (masked e (a .p .nodata) (take 16 (a .v))) (lanes-list nan 0 (keyColor keys (a .colors .now) count (a .p .nodata)) 16 (found .result) (a .v) (search needs) (search needs) (found .ensures keys count n))
+    ∙ ap (masked e (a .p .nodata) (take 16 (a .v))) (lanes-list nan 0 (searchColor (a .narrow .now) (a .colors .now) (a .p .nodata)) 16 (found .result) (a .v) (search needs) (search needs) (found .ensures))
     ∙ masked-map _ _ _ _
 
 pub words-by-search-spec : {M : Type 1} → statement M

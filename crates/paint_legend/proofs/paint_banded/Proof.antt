@@ -3,7 +3,7 @@ use mathlib.Core.Path.{_≡_, ap, subst, sym, _∙_}
 use native.Mathlib.Omega.{arith}
 use Prim.Native.Nat.{_≤_}
 use lib.ListN.{length, length-map}
-use Rattle.bands.specs.declared.LegendBand.{LegendBand}
+use Rattle.legend_band.specs.declared.LegendBand.{LegendBand}
 use Rattle.banded_words.specs.declared.BandedPaint.{BandedPaint}
 use Rattle.legend.specs.Painters.{bandedPainter}
 use Rattle.paint_legend.proofs.Lanes.{lanes-count, painted-plainly, painted-in-lanes}

@@ -1,7 +1,6 @@
 -- `insert` meets its contract: over an equal key, or in the room made before a larger one. Assumes nothing.
 use mathlib.Core.Logic.{⊎-elim}
-use mathlib.Core.Path.{sym, subst, ap, _∙_}
-use Prim.Native.Nat.{_+_}
+use mathlib.Core.Path.{sym, ap, _∙_}
 use native.Mathlib.Omega.{arith}
 use borrow.Author.Needs.{needs}
 use lib.IntN.{pos}
@@ -9,9 +8,8 @@ use lib.ListN.{set, getD}
 use lib.Signed.{leZ}
 use mir.Syntax.{w64}
 use mir.Val.{toZ, ofZ}
-use Rattle.sorted_keys.specs.Steps.{Holds}
-use Rattle.sorted_keys.specs.Categories.{inserted}
-use Rattle.sorted_keys.proofs.Inserting.{place-count, holds-new, holds-over}
+use Rattle.sorted_keys.proofs.Inserting.{place-count}
+use Rattle.sorted_keys.proofs.Putting.{put-over, put-new}
 use Rattle.key_lists.proofs.Numbers.{back}
 use Rattle.sorted_keys.proofs.insert.Statement.{statement}
 use Rattle.sorted_keys.proofs.insert.Tie as tie
@@ -30,12 +28,12 @@ store-requires c κs = search needs
 
 returns : tie.Need-returns
 returns c =
-    λ cs h.
-    let s = c .before .before .before .before .before .before .before .before in
-    let p = c .before .before .before .before .before .before .place-of in
-    let k = toZ w64 (ofZ w64 (s .args .key)) in
-    let x = getD (s .args .keys .now) (p .result) (pos 0) in
-    subst (λ z. Holds (inserted z (s .args .color) cs) (c .store .last .0) (c .store .last .1 .0) (s .args .count)) (back (s .args .key) (s .fits .key .sfits)) (holds-over k (s .args .color) (p .result) h (p .ensures) (c .before .before .before .before .before .if1 .taken) (sym (ap (λ z. leZ z k) (back x (c .before .before .before .before .if22 .given))) ∙ c .before .before .before .if2 .taken) (c .store .ensures .0) (c .store .ensures .1))
+    let d = c .before .before .before in
+    let p = d .before .before .before .place-of in
+    let s = d .before .before .before .before .before in
+    let a = s .args in
+    let x = getD (a .keys .now) (p .result) (pos 0) in
+    put-over (a .keys .now) (a .colors .now) (a .count) (back (a .key) (s .fits .key .sfits)) (p .ensures) (d .before .before .if1 .taken) (sym (ap (λ z. leZ z (toZ w64 (ofZ w64 (a .key)))) (back x (d .before .if22 .given))) ∙ d .if2 .taken) (c .store .ensures .0) (c .store .ensures .1)
 
 move-up-requires : tie.Need-move-up-requires
 move-up-requires c κs =
@@ -54,13 +52,13 @@ add-result c = search needs
 
 returns-2 : tie.Need-returns-2
 returns-2 c =
-    λ cs h.
-    let s = c .before .before .before .before .before .before .before .before .before in
-    let p = c .before .before .before .before .before .before .before .place-of in
     let m = c .before .before .before .move-up in
-    let k = toZ w64 (ofZ w64 (s .args .key)) in
-    let x = getD (s .args .keys .now) (p .result) (pos 0) in
-    subst (λ z. Holds (inserted z (s .args .color) cs) (c .store2 .last .0) (c .store2 .last .1 .0) (s .args .count + 1)) (back (s .args .key) (s .fits .key .sfits)) (holds-new k (s .args .color) (p .result) h (p .ensures) (s .pre .0) (λ q. ⊎-elim (λ w. sym (ap (λ z. leZ z k) (back x (w .1 .given))) ∙ w .2 .left) (λ w. absurd (omega arith)) (c .before .before .before .before .before .before .if1 .came)) (c .store2 .ensures .0 ∙ ap (λ a. set a (p .result) k) (m .ensures .0)) (c .store2 .ensures .1 ∙ ap (λ a. set a (p .result) (s .args .color)) (m .ensures .1)))
+    let d = c .before .before .before .before .before .before in
+    let p = d .before .place-of in
+    let s = d .before .before .before in
+    let a = s .args in
+    let x = getD (a .keys .now) (p .result) (pos 0) in
+    put-new (a .keys .now) (a .colors .now) (a .count) (back (a .key) (s .fits .key .sfits)) (p .ensures) (λ q. ⊎-elim (λ w. sym (ap (λ z. leZ z (toZ w64 (ofZ w64 (a .key)))) (back x (w .1 .given))) ∙ w .2 .left) (λ w. absurd (omega arith)) (d .if1 .came)) (c .store2 .ensures .0 ∙ ap (λ l. set l (p .result) (toZ w64 (ofZ w64 (a .key)))) (m .ensures .0)) (c .store2 .ensures .1 ∙ ap (λ l. set l (p .result) (a .color)) (m .ensures .1))
 
 pub insert-spec : {M : Type 1} → statement M
 insert-spec =

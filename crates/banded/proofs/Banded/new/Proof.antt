@@ -37,7 +37,7 @@ use denote.Triple.Walked.{says, Stays, stay-none-slice, walkOf, goes-none-slice,
 use denote.Exit.{yes}
 use Rattle.banded.specs.Record.{bandedOf, beside}
 use Rattle.banded.specs.Given.{withBand, folded, givenRefusal, withBandsGiven}
-use Rattle.bands.specs.declared.LegendBand.{LegendBand}
+use Rattle.legend_band.specs.declared.LegendBand.{LegendBand}
 use Rattle.banded.specs.declared.MadeBanded.{MadeBanded}
 use Rattle.banded.proofs.Rows.{Band, Held, held-makes, held-typed}
 use Rattle.banded.proofs.Calls.{calls-fact, and-fact}
