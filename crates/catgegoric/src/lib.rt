@@ -31,7 +31,8 @@ pub struct MadeCategoric {
 
 impl CategoricNumeric {
     // The largest key of a table.
-    pub const MAX_LOOKUP_SIZE: i64 = lookup_table::MAX_LOOKUP_SIZE;
+    // The largest key of a table.
+    pub const MAX_LOOKUP_SIZE: i64 = 512;
 
     pub fn default() -> CategoricNumeric
         ensures { λ r. ⌜ r ≡ emptyCategoric ⌝ }
@@ -199,8 +200,8 @@ fn with_lookup(keys: [i64; 256], colors: [u32; 256], count: usize) -> CategoricN
     requires { ⌜ count ≤ 256 ⌝ }
     ensures { λ r. ⌜ r ≡ record { keys = keys; colors = colors; count = count; lookup = padded 0 513 (table (take count keys) (take count colors)); «lookup_count» = tableSize (take count keys) } ⌝ }
 {
-    let lookup_count = lookup_table::lookup_size(&keys, count);
-    let lookup = lookup_table::create_fast_lookup(&keys, &colors, count);
+    let lookup_count = lookup_size(&keys, count);
+    let lookup = lookup_table::create_fast_lookup(&keys, &colors, count, lookup_count);
     CategoricNumeric {
         keys,
         colors,
@@ -208,6 +209,24 @@ fn with_lookup(keys: [i64; 256], colors: [u32; 256], count: usize) -> CategoricN
         lookup,
         lookup_count,
     }
+}
+
+// How many words the table of some keys has, 0 where they have none.
+fn lookup_size(keys: &[i64; 256], count: usize) -> usize
+    requires { ⌜ (count ≤ 256) × (length (now keys) ≡ 256) ⌝ }
+    ensures { λ r. ⌜ r ≡ tableSize (take count (now (keys .entry))) ⌝ }
+{
+    if count == 0 {
+        return 0;
+    }
+    if lookup_table::smallest(keys, count) < 0 {
+        return 0;
+    }
+    let most = lookup_table::largest(keys, count);
+    if most > CategoricNumeric::MAX_LOOKUP_SIZE {
+        return 0;
+    }
+    most as usize + 1
 }
 
 // ---- any use of a record

@@ -20,27 +20,27 @@ use Rattle.lookup_table.proofs.create_fast_lookup.Statement.{statement}
 use Rattle.lookup_table.proofs.create_fast_lookup.Tie as tie
 
 abbrev Inv-loop : tie.InvT-loop
-Inv-loop keys colors count lookup₀ i₀ lookup i = (i ≤ count) × (lookup ≡ written i (take count keys) (take count colors) (replicate 513 0))
+Inv-loop keys colors count size lookup₀ i₀ lookup i = (i ≤ count) × (lookup ≡ written i (take count keys) (take count colors) (replicate 513 0))
 
 abbrev μ-loop : tie.MeasureT-loop
-μ-loop keys colors count lookup₀ i₀ lookup i = count - i
+μ-loop keys colors count size lookup₀ i₀ lookup i = count - i
 
 -- the counted keys, that they have a table past the test, and a key as an index of it
 abbrev keys-of : tie.Start Inv-loop μ-loop → List ℤ
 keys-of s = take (s .args .count) (s .args .keys .now)
 
-is-there : (c : tie.Else1 Inv-loop μ-loop) → tabled (keys-of (c .before .before)) ≡ true
-is-there c = sized (keys-of (c .before .before)) (λ e. c .if1 .left (c .before .lookup-size .ensures ∙ e))
+is-there : (c : tie.Else1 Inv-loop μ-loop) → tabled (keys-of (c .before)) ≡ true
+is-there c = sized (keys-of (c .before)) (λ e. c .if1 .left (c .before .pre .2 ∙ e))
 
 module _ (c : tie.After-at Inv-loop μ-loop) where
   abbrev key-of : ℤ
-  key-of = getD (c .before .before .before .before .before .args .keys .now) (c .before .before .loop .i) (pos 0)
+  key-of = getD (c .before .before .before .before .args .keys .now) (c .before .before .loop .i) (pos 0)
 
   from-0 : below key-of ≡ 0
-  from-0 = let s = c .before .before .before .before .before in index-from-0 (s .args .keys .now) (s .args .count) (s .pre .1) (s .pre .0) (is-there (c .before .before .before)) (c .before .before .loop .i) (c .before .loop-test .taken)
+  from-0 = let s = c .before .before .before .before in index-from-0 (s .args .keys .now) (s .args .count) (s .pre .1) (s .pre .0) (is-there (c .before .before .before)) (c .before .before .loop .i) (c .before .loop-test .taken)
 
   in-table : whole key-of < 513
-  in-table = let s = c .before .before .before .before .before in index-in-table (s .args .keys .now) (s .args .count) (s .pre .1) (s .pre .0) (is-there (c .before .before .before)) (c .before .before .loop .i) (c .before .loop-test .taken)
+  in-table = let s = c .before .before .before .before in index-in-table (s .args .keys .now) (s .args .count) (s .pre .1) (s .pre .0) (is-there (c .before .before .before)) (c .before .before .loop .i) (c .before .loop-test .taken)
 
   read : toZ w64 (ofZ w64 key-of) ≡ key-of
   read = back key-of (c .at .given)
@@ -48,13 +48,10 @@ module _ (c : tie.After-at Inv-loop μ-loop) where
   index-is : natAbs (toZ w64 (ofZ w64 key-of)) ≡ whole key-of
   index-is = ap natAbs read ∙ cast-is key-of from-0
 
-lookup-size-requires : tie.Need-lookup-size-requires Inv-loop μ-loop
-lookup-size-requires c κs = search needs
-
 returns : tie.Need-returns Inv-loop μ-loop
 returns c =
-    let s = c .before .before in
-    no-table (keys-of s) (take (s .args .count) (s .args .colors .now)) (unsized (keys-of s) (sym (c .before .lookup-size .ensures) ∙ c .if1 .taken))
+    let s = c .before in
+    no-table (keys-of s) (take (s .args .count) (s .args .colors .now)) (unsized (keys-of s) (sym (s .pre .2) ∙ c .if1 .taken))
 
 loop-holds : tie.Need-loop-holds Inv-loop μ-loop
 unfolding written
@@ -89,13 +86,13 @@ loop-less c = search needs
 
 loop-again : tie.Need-loop-again Inv-loop μ-loop
 loop-again c =
-    let s = c .before .before .before .before .before .before in
+    let s = c .before .before .before .before .before in
     let l = c .before .before .before .loop in
     (omega arith, ap (λ n. set (l .lookup) n (getD (s .args .colors .now) (l .i) 0)) (index-is (c .before)) ∙ ap (λ r. set r (whole (key-of (c .before))) (getD (s .args .colors .now) (l .i) 0)) (l .inv .1) ∙ word-written (s .args .keys .now) (s .args .count) (s .pre .1) (s .pre .0) (is-there (c .before .before .before .before)) (l .i) (c .before .before .loop-test .taken) (s .args .colors .now) (replicate 513 0))
 
 returns-2 : tie.Need-returns-2 Inv-loop μ-loop
 returns-2 c =
-    let s = c .before .before .before .before in
+    let s = c .before .before .before in
     let l = c .before .loop in
     let e : l .i ≡ length (keys-of s) = omega (arith, length-take-le (s .args .count) (s .args .keys .now) (omega arith)) in
     l .inv .1
@@ -108,7 +105,6 @@ create-fast-lookup-spec =
     (tie.spec
     Inv-loop
     μ-loop
-    lookup-size-requires
     returns
     loop-holds
     mul-at
