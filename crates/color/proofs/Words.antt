@@ -7,7 +7,6 @@ use Rattle.color.specs.declared.Color.{Color}
 use Rattle.color.specs.Word.{wordOf, colorOf, transparent, Bytes}
 
 pub word-below : (c : Color) → Bytes c → wordOf c < 2 ^ 32
-unfolding wordOf
 word-below c h = omega arith
 
 pub color-bytes : (w : ℕ) → Bytes (colorOf w)
@@ -16,7 +15,7 @@ color-bytes w =
     record { r = omega arith; g = omega arith; b = omega arith; a = omega arith }
 
 pub word-of-color : (w : ℕ) → w < 2 ^ 32 → wordOf (colorOf w) ≡ w
-unfolding wordOf colorOf
+unfolding colorOf
 word-of-color w h =
     let top : w / 16777216 / 256 ≡ 0 = omega arith
     in omega (arith, div-div-eq-div-mul w 256 256, div-div-eq-div-mul w 65536 256)
@@ -27,10 +26,9 @@ same-color :
 same-color c d r g b a = λ i. record { r = r i; g = g i; b = b i; a = a i }
 
 pub color-of-word : (c : Color) → Bytes c → colorOf (wordOf c) ≡ c
-unfolding wordOf colorOf
+unfolding colorOf
 color-of-word c h =
     same-color (colorOf (wordOf c)) c (omega arith) (omega arith) (omega arith) (omega arith)
 
 pub word-transparent : wordOf transparent ≡ 0
-unfolding wordOf
 word-transparent = refl

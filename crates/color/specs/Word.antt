@@ -6,7 +6,7 @@ abbrev pub transparent : Color
 transparent = record { r = 0; g = 0; b = 0; a = 0 }
 
 -- the word of a colour
-unfoldable pub wordOf : Color → ℕ
+abbrev pub wordOf : Color → ℕ
 wordOf c = c .r + 256 * c .g + 65536 * c .b + 16777216 * c .a
 
 -- the colour of a word: its bytes, lowest first

@@ -1,6 +1,7 @@
 -- The settings, and the colours that they give (docs/RULES.md, "Samples and settings"). Definitions only.
 use Prim.Native.Nat.{ℕ}
 use mathlib.Core.Bool.{false}
+use Rattle.color.specs.Word.{wordOf, transparent}
 use Rattle.colormapper.specs.declared.OptionalColor.{OptionalColor}
 use Rattle.colormapper.specs.declared.OptionalColor.the-variants.{Given, Absent}
 use Rattle.colormapper.specs.declared.MappingConfig.{MappingConfig}
@@ -8,7 +9,7 @@ use Rattle.colormapper.specs.declared.UnmappableColors.{UnmappableColors
 
 -- TRANSPARENT for nodata, no low and no high colour, zero a value as any other
 abbrev pub noSettings : MappingConfig
-noSettings = record { «nodata_color» = 0; «out_of_range_low_color» = Absent; «out_of_range_high_color» = Absent; «zero_is_nodata» = false }
+noSettings = record { «nodata_color» = wordOf transparent; «out_of_range_low_color» = Absent; «out_of_range_high_color» = Absent; «zero_is_nodata» = false }
 
 abbrev pub orElse : OptionalColor → ℕ → ℕ
 orElse (Given color) other = color

@@ -1,5 +1,6 @@
 // Settings, and the colours of samples that a legend does not map (docs/RULES.md, "Samples and settings").
 use cast::Nodata;
+use color::Color;
 ghost use mathlib.Core.Path.{_≡_};
 ghost use mathlib.Core.Bool.{cond};
 ghost use Prim.Native.Nat.{_≤_};
@@ -42,7 +43,7 @@ impl MappingConfig {
         ensures { λ r. ⌜ r ≡ noSettings ⌝ }
     {
         MappingConfig {
-            nodata_color: 0,
+            nodata_color: Color::TRANSPARENT.to_bits(),
             out_of_range_low_color: OptionalColor::Absent,
             out_of_range_high_color: OptionalColor::Absent,
             zero_is_nodata: false,

@@ -3,7 +3,6 @@ use lib.Dec.{T}
 use lib.Ieee.{add, sub, mul, div, lt, le, eq, isNan, ofInt, ofBits}
 use Rattle.lists.specs.Tabulate.{tabulate}
 use Rattle.lists.specs.Padded.{padded}
-use Rattle.color.specs.Word.{wordOf}
 use Rattle.color.specs.Hex.{hexColor, hexForm, hexDigit, twoDigits, hexPair, pairAt, alphaOf, ofPairs}
 use Rattle.cast.specs.Truncated.{truncated}
 use Rattle.floats.specs.RampIndex.{plainIndex, laneIndex}
@@ -28,5 +27,5 @@ use Rattle.catgegoric.specs.Made.{recordOf, madeUnless, manyRefusal, valuesRefu
 use Rattle.examples.specs.Examples.{gray, G, categoryOf, asked, examples, allHold}
 
 pub all-hold : T (allHold examples)
-unfolding allHold examples asked gray G categoryOf tabulate padded wordOf hexColor hexForm hexDigit twoDigits hexPair pairAt alphaOf ofPairs truncated plainIndex laneIndex fraction plainFraction plainEntry laneEntry step position rampColors unmappable linear.plainRule linear.laneRule linear.plainColor linear.laneColor lastOf firstBand edges plainRule bandColor ruleColor edged scanned laneColors bandedOf beside bandStep bandStart equalBands equalRefusal withEqualBands words.tableRule rule.firstKey rule.keyRule rule.plainRule rule.plainColor words.tableColor rule.keyColor inserted firstOf foremost tabled tableSize written table outsideFrom recordOf madeUnless manyRefusal valuesRefusal add sub mul div lt le eq isNan ofInt ofBits
+unfolding allHold examples asked gray G categoryOf tabulate padded hexColor hexForm hexDigit twoDigits hexPair pairAt alphaOf ofPairs truncated plainIndex laneIndex fraction plainFraction plainEntry laneEntry step position rampColors unmappable linear.plainRule linear.laneRule linear.plainColor linear.laneColor lastOf firstBand edges plainRule bandColor ruleColor edged scanned laneColors bandedOf beside bandStep bandStart equalBands equalRefusal withEqualBands words.tableRule rule.firstKey rule.keyRule rule.plainRule rule.plainColor words.tableColor rule.keyColor inserted firstOf foremost tabled tableSize written table outsideFrom recordOf madeUnless manyRefusal valuesRefusal add sub mul div lt le eq isNan ofInt ofBits
 all-hold = tt

@@ -4,6 +4,7 @@ use mathlib.Core.Bool.{cond}
 use mathlib.Core.List.{List}
 use lib.Ieee.{Float}
 use lib.ListN.{getD}
+use Rattle.color.specs.Word.{wordOf, transparent}
 use Rattle.floats.specs.RampIndex.{nought, inUnit, plainIndex, laneIndex}
 use Rattle.lookup.specs.declared.Entry.{Entry}
 use Rattle.lookup.specs.declared.Entry.the-variants.{At, Outside}
@@ -19,7 +20,7 @@ laneEntry f = cond (inUnit f) (At (laneIndex f)) Outside
 -- a ramp's colour of an entry; outside, TRANSPARENT
 abbrev pub entryColor : List ℕ → Entry → ℕ
 entryColor cmap (At k) = getD cmap k 0
-entryColor cmap Outside = 0
+entryColor cmap Outside = wordOf transparent
 
 -- the fraction itself from 0 to 1, else 0: what the code looks up before it decides
 unfoldable pub kept : Float → Float

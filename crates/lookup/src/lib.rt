@@ -1,4 +1,5 @@
 // Looking a fraction up in a ramp, plainly and in lanes (docs/RULES.md, "Colours and ramps").
+use color::Color;
 ghost use mathlib.Core.Path.{_≡_};
 ghost use mathlib.Core.Bool.{true, cond};
 ghost use Prim.Native.Nat.{_≤_, _<_};
@@ -42,8 +43,9 @@ pub fn get_entry_lane(fraction: f32) -> Entry
 pub fn get_color(cmap: &[u32; 256], fraction: f32) -> u32
     ensures { λ r. ⌜ r ≡ entryColor (now (cmap .entry)) (plainEntry fraction) ⌝ }
 {
+    let transparent = Color::TRANSPARENT.to_bits();
     let index = round::nearest(unit(fraction) * 255.0);
-    select::pick(in_unit(fraction), cmap[index], 0)
+    select::pick(in_unit(fraction), cmap[index], transparent)
 }
 
 // The colours of a chunk's fractions. Each lane looks up, and a fraction outside is replaced after that: a load under a branch
@@ -89,10 +91,11 @@ fn mappable(lanes: usize, fraction: [f32; 16], colors: [u32; 16]) -> [u32; 16]
     requires { ⌜ lanes ≤ 16 ⌝ }
     ensures { λ r. ⌜ LanesOf 0 lanes (λ k. cond (inUnit (getD fraction k nan)) (getD colors k 0) 0) r ⌝ }
 {
+    let transparent = Color::TRANSPARENT.to_bits();
     let mut result = [0u32; 16];
     let mut i: usize = 0;
     while i < lanes {
-        result[i] = select::pick(in_unit(fraction[i]), colors[i], 0);
+        result[i] = select::pick(in_unit(fraction[i]), colors[i], transparent);
         i += 1;
     }
     result

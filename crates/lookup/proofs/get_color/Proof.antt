@@ -12,6 +12,9 @@ use borrow.Author.Needs.{needs}
 use Rattle.lookup.proofs.get_color.Statement.{statement}
 use Rattle.lookup.proofs.get_color.Tie as tie
 
+to-bits-requires : tie.Need-to-bits-requires
+to-bits-requires c κs = search needs
+
 unit-requires : tie.Need-unit-requires
 unit-requires c κs = search needs
 
@@ -39,12 +42,21 @@ pick-requires c κs = search needs
 
 returns : tie.Need-returns
 unfolding ofBits
-returns c = let f = c .before .before .before .before .before .args .fraction in let e = c .before .before .before .nearest .ensures ∙ sym (plain-is (c .before .before .before .before .unit .result)) ∙ ap plainIndex (c .before .before .before .before .unit .ensures .0) in let g = c .before .before .in-unit .ensures in c .pick .ensures ∙ ap₂ (λ b k. cond b (getD (c .before .before .before .before .before .args .cmap .now) k 0) 0) g e ∙ plain-chosen f (c .before .before .before .before .before .args .cmap .now)
+returns c =
+    let nearest = c .before .before .before in
+    let unit = nearest .before in
+    let a = unit .before .before .args in
+    let e = nearest .nearest .ensures ∙ sym (plain-is (unit .unit .result)) ∙ ap plainIndex (unit .unit .ensures .0) in
+    c .pick .ensures
+    ∙ ap (cond (c .before .before .in-unit .result) _) (unit .before .to-bits .ensures)
+    ∙ ap₂ (λ b k. cond b (getD (a .cmap .now) k 0) 0) (c .before .before .in-unit .ensures) e
+    ∙ plain-chosen (a .fraction) (a .cmap .now)
 
 pub get-color-spec : {M : Type 1} → statement M
 get-color-spec =
     tie.close
     (tie.spec
+    to-bits-requires
     unit-requires
     nearest-requires
     in-unit-requires

@@ -13,10 +13,13 @@ use Rattle.lookup.proofs.mappable.Statement.{statement}
 use Rattle.lookup.proofs.mappable.Tie as tie
 
 abbrev Inv-loop : tie.InvT-loop
-Inv-loop lanes fraction colors result₀ i₀ result i = Storing 0 (λ k. cond (inUnit (getD fraction k nan)) (getD colors k 0) 0) 16 lanes i result
+Inv-loop lanes fraction colors transparent result₀ i₀ result i = Storing 0 (λ k. cond (inUnit (getD fraction k nan)) (getD colors k 0) 0) 16 lanes i result
 
 abbrev μ-loop : tie.MeasureT-loop
-μ-loop lanes fraction colors result₀ i₀ result i = lanes - i
+μ-loop lanes fraction colors transparent result₀ i₀ result i = lanes - i
+
+to-bits-requires : tie.Need-to-bits-requires Inv-loop μ-loop
+to-bits-requires c κs = search needs
 
 loop-holds : tie.Need-loop-holds Inv-loop μ-loop
 loop-holds c = storing-start
@@ -52,7 +55,7 @@ loop-less : tie.Need-loop-less Inv-loop μ-loop
 loop-less c = search needs
 
 loop-again : tie.Need-loop-again Inv-loop μ-loop
-loop-again c = storing-turn (c .before .before .before .loop .inv) (omega arith) (omega arith) (c .pick .ensures ∙ cc (c .before .in-unit .ensures))
+loop-again c = storing-turn (c .before .before .before .loop .inv) (omega arith) (omega arith) (c .pick .ensures ∙ cc (c .before .in-unit .ensures, c .before .before .before .before .to-bits .ensures))
 
 returns : tie.Need-returns Inv-loop μ-loop
 returns c = lanes-stored (c .before .loop .inv) (omega arith)
@@ -63,6 +66,7 @@ mappable-spec =
     (tie.spec
     Inv-loop
     μ-loop
+    to-bits-requires
     loop-holds
     mul-in-unit
     array-read-in-unit

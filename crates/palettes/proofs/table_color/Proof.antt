@@ -2,7 +2,6 @@
 use mathlib.Core.List.{flatten}
 use mathlib.Core.Path.{refl}
 use Rattle.palettes.specs.Palettes.{palettes, table}
-use Rattle.color.specs.Word.{wordOf}
 use borrow.Author.Needs.{needs}
 use Rattle.palettes.proofs.table_color.Statement.{statement}
 use Rattle.palettes.proofs.table_color.Tie as tie
@@ -14,7 +13,7 @@ array-read-result : tie.Need-array-read-result
 array-read-result c = search needs
 
 returns : tie.Need-returns
-unfolding palettes table wordOf flatten
+unfolding palettes table flatten
 returns c = refl
 
 pub table-color-spec : {M : Type 1} → statement M

@@ -35,7 +35,6 @@ add-result-3 : tie.Need-add-result-3
 add-result-3 c = search needs
 
 returns : tie.Need-returns
-unfolding wordOf
 returns c = search needs
 
 pub to-bits-spec : {M : Type 1} → statement M
