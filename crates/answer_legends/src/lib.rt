@@ -1,3 +1,3 @@
-// What a row of the stored answers of the Rust asks for, for the program `replay`: a legend, or an answer that needs none.
+// The legend that a row of stored answers asks for (crates/replay/README.md).
 pub mod build;
-pub mod leaves;
+mod list;

@@ -1,2 +1,3 @@
--- What the contracts of `answer_rows` and of `replay` cite. Definitions only.
-pub mod Rows
+-- What the contracts cite: the values of words, and the parts of a row.
+pub mod Values
+pub mod Parts

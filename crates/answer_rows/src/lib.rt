@@ -1,3 +1,4 @@
-// A row of the stored answers of the Rust, for the program `replay`: where its parts stand, and the values that its words stand for.
+// A row of stored answers, for the program `replay`: where its parts stand, the values that its words stand for, and two rows compared.
+pub mod part;
 pub mod place;
-pub mod row;
+pub mod value;

@@ -2,6 +2,7 @@
 
 use crate::random::Random;
 use crate::row::*;
+use crate::rules;
 use oracle::{Answer, Colors, Ramp};
 
 /// The colours of a palette.
@@ -9,14 +10,18 @@ pub fn palette(number: usize) -> Row {
     let mut row = Row::new(Kind::Palette);
     let colors = oracle::palette(number);
     row.set(SOURCE, number as u32);
-    row.set(LIST_COUNT, colors.len() as u32);
-    row.set_all(COLORS, colors);
+    row.set(RANGE, colors.len() as u32);
+    row.set_all(PLAIN, colors);
     row
 }
 
-/// The answer's number, and what was made if something was.
-pub fn answered<T>(row: &mut Row, answer: Answer<T>) -> Option<T> {
-    row.set(ANSWER, answer.as_ref().err().map_or(0, |refused| refused.number()));
+/// The answer's number, with the index where its row of the table has one, and what was made if something was.
+pub fn answered<T>(row: &mut Row, answer: Answer<T>, index: Option<usize>) -> Option<T> {
+    let number = answer.as_ref().err().map_or(0, |refused| refused.number());
+    row.set(ANSWER, number);
+    if rules::INDEXED.contains(&number) {
+        row.set(INDEX, index.expect("the rule finds what the reference refused") as u32 + 1);
+    }
     answer.ok()
 }
 
@@ -34,20 +39,22 @@ pub fn hex(random: &mut Random) -> Row {
     let text: Vec<u8> = (0..length).map(&mut byte).collect();
     row.set(COUNT, length as u32);
     row.set_all(NUMBERS, text.iter().map(|&byte| byte.into()));
-    let text = String::from_utf8(text).expect("ASCII");
-    if let Some(word) = answered(&mut row, oracle::hex(&text)) {
+    let answer = oracle::hex(std::str::from_utf8(&text).expect("ASCII"));
+    let index = rules::bad_pair(&text);
+    if let Some(word) = answered(&mut row, answer, index) {
         row.set(RANGE, word);
     }
     row
 }
 
-/// Fractions looked up in a ramp, plainly and in sixteen lanes.
+/// The ramp, and fractions looked up in it plainly and in sixteen lanes.
 pub fn lookup(random: &mut Random) -> Row {
     let mut row = Row::new(Kind::Lookup);
     let from = colors(&mut row, random, 2, true);
     let fractions: [f32; LIST] = std::array::from_fn(|_| fraction(random));
     row.set_all(SAMPLES, fractions.map(bits));
-    if let Some(ramp) = answered(&mut row, Ramp::create(&from)) {
+    if let Some(ramp) = answered(&mut row, Ramp::create(&from), None) {
+        row.set_all(COLOR_LIST, ramp.entries());
         let mut lanes = [0; LIST];
         ramp.get_color_simd(LIST, &fractions, &mut lanes);
         row.set_all(PLAIN, fractions.map(|fraction| ramp.get_color(fraction)));

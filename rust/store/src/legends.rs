@@ -3,7 +3,8 @@
 use crate::leaves::{answered, colors};
 use crate::random::Random;
 use crate::row::*;
-use oracle::{Answer, Colors, Config, Legend, Ramp, Sample};
+use crate::rules;
+use oracle::{Answer, Colors, Config, Legend, Ramp, Record, Sample};
 
 const E: f32 = 1e-4;
 
@@ -37,13 +38,14 @@ pub fn row(number: u64, random: &mut Random) -> Row {
         Kind::LinearStored => linear_stored(&mut row, random, config),
         _ => categories_stored(&mut row, random, config),
     };
-    let count = if random.once_in(2) { LIST } else { random.below(LIST as u64 + 1) as usize };
+    let count = if random.once_in(2) { SAMPLES_MOST } else { random.below(SAMPLES_MOST as u64 + 1) as usize };
     row.set(SAMPLE_COUNT, count as u32);
-    let legend = answered(&mut row, answer);
+    let legend = answered(&mut row, answer, rules::empty_range(&edges));
     if let Some(legend) = &legend {
         let (start, end) = legend.total_value_range();
         row.set_all(RANGE, [bits(start), bits(end)]);
-        row.set_all(COLOR_LIST, legend.color_list().into_iter().step_by(17));
+        row.set_all(COLOR_LIST, legend.color_list());
+        record(&mut row, legend.record(), config);
     }
     let samples: Vec<f32> = (0..count).map(|_| sample(random, &edges)).collect();
     let nodata = random.once_in(2).then(|| sample(random, &[samples.first().copied().unwrap_or(7.0)]));
@@ -64,10 +66,14 @@ fn config(row: &mut Row, random: &mut Random) -> Config {
         zero_is_nodata: random.once_in(3),
     };
     row.set(NODATA_COLOR, config.nodata_color);
-    row.set(FLAGS, config.low.is_some() as u32 + 2 * config.high.is_some() as u32 + 4 * config.zero_is_nodata as u32);
+    row.set(FLAGS, flags(&config));
     row.set(LOW, config.low.unwrap_or(0));
     row.set(HIGH, config.high.unwrap_or(0));
     config
+}
+
+fn flags(config: &Config) -> u32 {
+    config.low.is_some() as u32 + 2 * config.high.is_some() as u32 + 4 * config.zero_is_nodata as u32
 }
 
 /// The samples of a type, the nodata value, and what the legend paints.
@@ -86,10 +92,45 @@ fn painted<T: Sample>(
     row.set_all(SAMPLES, samples.iter().map(|&sample| word(sample)));
     row.set(NODATA, nodata.map_or(0, word));
     row.0[FLAGS] += 8 * nodata.is_some() as u32;
-    if let Some(legend) = legend {
+    if let Some(legend) = &legend {
+        row.set_all(VALUES, samples.iter().map(|&sample| legend.color_for_value(sample, nodata)));
         row.set_all(PLAIN, legend.paint(&samples, nodata));
-        for (lanes, place) in LANES {
-            row.set_all(place, legend.paint_simd(lanes, &samples, nodata));
+    }
+    for (lanes, place, scratch) in LANES {
+        let colors =
+            legend.as_ref().map_or(vec![0; samples.len()], |legend| legend.paint_simd(lanes, &samples, nodata));
+        row.set_all(scratch, rules::scratch(lanes, legend.as_ref(), &colors));
+        row.set_all(place, colors);
+    }
+}
+
+/// What the legend holds: ten words, and the arrays of its kind.
+fn record(row: &mut Row, record: Record, config: Config) {
+    row.set_all(RECORD + 1, [config.nodata_color, flags(&config), config.low.unwrap_or(0), config.high.unwrap_or(0)]);
+    match record {
+        Record::Linear { start, end, ramp } => {
+            row.set_all(RECORD + 5, [bits(start), bits(end)]);
+            row.set_all(ARRAYS, *ramp);
+        }
+        Record::Banded(bands) => {
+            row.set(RECORD, 1);
+            row.set(RECORD + 7, bands.len() as u32);
+            row.set_all(ARRAYS, bands.iter().map(|band| bits(band.0)));
+            row.set_all(ARRAYS + 64, bands.iter().map(|band| bits(band.1)));
+            row.set_all(ARRAYS + 128, bands.iter().map(|band| band.2));
+        }
+        Record::Categoric { mut categories, table } => {
+            if row.0[0] == Kind::CategoriesStored as u32 {
+                // The reference keeps keys in a sorted map; the record has them in the order that the row gives.
+                categories
+                    .sort_by_key(|&(x, _)| row.0[NUMBERS..NUMBERS + LIST].iter().position(|&word| word == key(x)));
+            }
+            row.set(RECORD, 2);
+            row.set(RECORD + 8, categories.len() as u32);
+            row.set(RECORD + 9, table.as_ref().map_or(0, |table| table.len() as u32));
+            row.set_all(ARRAYS, categories.iter().map(|category| key(category.0)));
+            row.set_all(ARRAYS + 256, categories.iter().map(|category| category.1));
+            row.set_all(ARRAYS + 512, table.into_iter().flatten());
         }
     }
 }

@@ -1,10 +1,13 @@
-//! Writes the reference's answers to `crates/replay/data/answers.bin`, the same file at every run: `cargo run --release -p store`.
+//! Writes the reference's answers to `crates/replay/data/answers.bin`, and some of them with a word changed to
+//! `crates/replay_damaged/data/answers.bin`, the same files at every run: `cargo run --release -p store`.
 //! `crates/replay/README.md` says what a row holds.
 
+mod damage;
 mod leaves;
 mod legends;
 mod random;
 mod row;
+mod rules;
 
 use random::Random;
 use row::Row;
@@ -20,27 +23,31 @@ const SEED: u64 = 0x6c65_6765_6e64;
 const HEX: u64 = 400;
 const LOOKUPS: u64 = 400;
 const TRUNCATED: u64 = 200;
-const LEGENDS: u64 = 2800;
+const LEGENDS: u64 = 640;
 
 fn main() {
     if !oracle::PRESENT {
         eprintln!("the reference's text is not here (LEGEND_ORACLE_SRC)");
         process::exit(1);
     }
-    let file = file();
-    fs::create_dir_all(file.parent().expect("the file is in a folder")).expect("the folder can be made");
-    fs::write(&file, bytes()).expect("the file can be written");
+    for (file, bytes) in files() {
+        fs::create_dir_all(file.parent().expect("the file is in a folder")).expect("the folder can be made");
+        fs::write(&file, bytes).expect("the file can be written");
+    }
 }
 
-fn file() -> PathBuf {
-    Path::new(env!("CARGO_MANIFEST_DIR")).join("../../crates/replay/data/answers.bin")
-}
-
-/// The file: how many rows there are, and the rows.
-fn bytes() -> Vec<u8> {
+/// The files, with what they hold.
+fn files() -> [(PathBuf, Vec<u8>); 2] {
+    let file =
+        |program| Path::new(env!("CARGO_MANIFEST_DIR")).join("../../crates").join(program).join("data/answers.bin");
     let rows = rows();
+    [(file("replay"), bytes(&rows)), (file("replay_damaged"), bytes(&damage::rows(&rows)))]
+}
+
+/// A file: how many rows there are, and the rows.
+fn bytes(rows: &[Row]) -> Vec<u8> {
     let count = u32::try_from(rows.len()).expect("there are few rows");
-    [count].iter().chain(rows.iter().flat_map(|row| &row.0)).flat_map(|word| word.to_le_bytes()).collect()
+    [count].into_iter().chain(rows.iter().flat_map(Row::stored)).flat_map(u32::to_le_bytes).collect()
 }
 
 fn rows() -> Vec<Row> {
@@ -57,14 +64,13 @@ fn rows() -> Vec<Row> {
 #[cfg(test)]
 mod tests {
     #[test]
-    fn the_file_is_what_the_reference_answers() {
+    fn the_files_are_what_the_reference_answers() {
         if !oracle::PRESENT {
             eprintln!("passed over: the reference's text is not here");
             return;
         }
-        assert!(
-            super::bytes() == std::fs::read(super::file()).expect("the file is there"),
-            "cargo run --release -p store"
-        );
+        for (file, bytes) in super::files() {
+            assert!(bytes == std::fs::read(file).expect("the file is there"), "cargo run --release -p store");
+        }
     }
 }

@@ -1,10 +1,11 @@
 //! A row of the file: words, and where each part stands.
 
 /// The number of words of a row.
-pub const WORDS: usize = 160;
+pub const WORDS: usize = 1680;
 
-/// How many words the lists of a row have.
+/// How many words the lists of a row have, and how many samples there are at most.
 pub const LIST: usize = 16;
+pub const SAMPLES_MOST: usize = 40;
 
 /// The kinds of rows, by the number in a row's first word.
 #[derive(Clone, Copy)]
@@ -23,26 +24,37 @@ pub enum Kind {
     CategoriesStored,
 }
 
-pub const ANSWER: usize = 1;
-pub const SOURCE: usize = 2;
-pub const LIST_COUNT: usize = 3;
-pub const COLORS: usize = 4;
-pub const NODATA_COLOR: usize = 20;
-pub const FLAGS: usize = 21;
-pub const LOW: usize = 22;
-pub const HIGH: usize = 23;
-pub const NODATA: usize = 24;
-pub const SAMPLE_TYPE: usize = 25;
-pub const SAMPLE_COUNT: usize = 26;
-pub const COUNT: usize = 27;
-pub const NUMBERS: usize = 28;
-pub const TABLE: usize = 44;
-pub const RANGE: usize = 60;
-pub const TABLE_COUNT: usize = 62;
-pub const SAMPLES: usize = 64;
-pub const PLAIN: usize = 80;
-pub const LANES: [(usize, usize); 3] = [(4, 96), (8, 112), (16, 128)];
-pub const COLOR_LIST: usize = 144;
+// What a row asks.
+pub const SOURCE: usize = 1;
+pub const LIST_COUNT: usize = 2;
+pub const NODATA_COLOR: usize = 3;
+pub const FLAGS: usize = 4;
+pub const LOW: usize = 5;
+pub const HIGH: usize = 6;
+pub const NODATA: usize = 7;
+pub const SAMPLE_TYPE: usize = 8;
+pub const SAMPLE_COUNT: usize = 9;
+pub const COUNT: usize = 10;
+pub const TABLE_COUNT: usize = 11;
+pub const COLORS: usize = 16;
+pub const NUMBERS: usize = 32;
+pub const TABLE: usize = 64;
+pub const SAMPLES: usize = 80;
+
+// The answers.
+pub const ANSWER: usize = 128;
+pub const INDEX: usize = 129;
+pub const RANGE: usize = 130;
+pub const RECORD: usize = 132;
+pub const VALUES: usize = 144;
+pub const PLAIN: usize = 184;
+/// The lane counts, each with the place of its painting and of scratch.
+pub const LANES: [(usize, usize, usize); 3] = [(4, 224, 344), (8, 264, 360), (16, 304, 376)];
+pub const COLOR_LIST: usize = 392;
+pub const ARRAYS: usize = 648;
+
+/// What each word of scratch holds before a painting.
+pub const MARK: u32 = 0x5c5c_5c5c;
 
 #[derive(Clone)]
 pub struct Row(pub [u32; WORDS]);
@@ -62,6 +74,14 @@ impl Row {
         for (i, word) in words.into_iter().enumerate() {
             self.0[place + i] = word;
         }
+    }
+}
+
+impl Row {
+    /// How many words are stored, and they: those after the last that is not 0 are left out.
+    pub fn stored(&self) -> Vec<u32> {
+        let count = self.0.iter().rposition(|&word| word != 0).map_or(0, |last| last + 1);
+        [&[count as u32], &self.0[..count]].concat()
     }
 }
 

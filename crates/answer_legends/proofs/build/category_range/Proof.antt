@@ -1,6 +1,8 @@
--- `category_range` is safe. Assumes nothing.
-use mathlib.Core.Path.{sym}
-use lib.Seq.{length-take-le}
+-- `category_range` meets its contract. Assumes nothing.
+use Prim.Native.Nat.{_-_}
+use mathlib.Core.Path.{_∙_}
+use lib.ListN.{getD}
+use Rattle.answer_legends.proofs.Asking.{prefix-fits, prefix-long, range-palette, range-list}
 use borrow.Author.Needs.{needs}
 use Rattle.answer_legends.proofs.build.category_range.Statement.{statement}
 use Rattle.answer_legends.proofs.build.category_range.Tie as tie
@@ -34,29 +36,44 @@ create-categoric-for-value-range-from-ramp-requires :
 create-categoric-for-value-range-from-ramp-requires c κs = search needs
 
 returns : tie.Need-returns
-returns c = search needs
+returns c =
+    let s3 = c .before .before .before in
+    let s4 = s3 .before in
+    let s10 = s4 .before .before .before .before .before .before in
+    c .create-categoric-for-value-range-from-ramp .ensures
+    ∙ range-palette (s10 .args .row .now) (s10 .args .config) (s4 .if1 .taken) (search needs) (search needs) (s3 .palette-ramp .ensures)
 
 words-at-requires : tie.Need-words-at-requires
 words-at-requires c κs = search needs
 
-element-copy-out-at-most-16 : tie.Need-element-copy-out-at-most-16
-element-copy-out-at-most-16 c = search needs
+element-copy-out-at-most : tie.Need-element-copy-out-at-most
+element-copy-out-at-most c = search needs
 
-at-most-16-requires : tie.Need-at-most-16-requires
-at-most-16-requires c κs = search needs
+at-most-requires : tie.Need-at-most-requires
+at-most-requires c κs = search needs
 
 array-share-prefix-list : tie.Need-array-share-prefix-list
-array-share-prefix-list c = search needs
+array-share-prefix-list c =
+    let s9 = c .before .before .before .before .before .before .before .before .before in
+    prefix-fits (getD (s9 .args .row .now) 2 0) (c .before .before .words-at .result) (c .at-most .ensures) (search needs)
 
 slice-aggregate-create-categoric-for-value-range :
     tie.Need-slice-aggregate-create-categoric-for-value-range
-slice-aggregate-create-categoric-for-value-range c = sym (length-take-le _ _ (search needs))
+slice-aggregate-create-categoric-for-value-range c =
+    let s3 = c .before .before .before in
+    let s10 = s3 .before .before .before .before .before .before .before in
+    prefix-long (getD (s10 .args .row .now) 2 0) (s3 .words-at .result) (c .before .at-most .ensures) (search needs)
 
 create-categoric-for-value-range-requires : tie.Need-create-categoric-for-value-range-requires
 create-categoric-for-value-range-requires c κs = search needs
 
 returns-2 : tie.Need-returns-2
-returns-2 c = search needs
+returns-2 c =
+    let s4 = c .before .before .before .before in
+    let s5 = s4 .before in
+    let s11 = s5 .before .before .before .before .before .before in
+    c .create-categoric-for-value-range .ensures
+    ∙ range-list (s11 .args .row .now) (s11 .args .config) (s5 .if1 .left) (c .before .before .at-most .ensures) (s4 .words-at .ensures) (search needs) (search needs)
 
 pub category-range-spec : {M : Type 1} → statement M
 category-range-spec =
@@ -73,8 +90,8 @@ category-range-spec =
     create-categoric-for-value-range-from-ramp-requires
     returns
     words-at-requires
-    element-copy-out-at-most-16
-    at-most-16-requires
+    element-copy-out-at-most
+    at-most-requires
     array-share-prefix-list
     slice-aggregate-create-categoric-for-value-range
     create-categoric-for-value-range-requires

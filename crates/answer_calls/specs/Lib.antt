@@ -1,0 +1,2 @@
+-- What the contracts cite: rows of single calls.
+pub mod Rows

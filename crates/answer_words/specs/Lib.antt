@@ -1,0 +1,3 @@
+-- What the contracts cite: the words of replies and of records.
+pub mod Replies
+pub mod Records

@@ -1,0 +1,2 @@
+-- What the contracts cite: a tally of rows.
+pub mod Tally

@@ -1,0 +1,2 @@
+-- What the contracts cite: a row worked out anew.
+pub mod Worked
