@@ -26,7 +26,7 @@ use Rattle.answer_rows.specs.Values.{atMost}
 use Rattle.answer_paintings.specs.declared.LaneWords.{LaneWords}
 use Rattle.answer_paintings.specs.declared.Paintings.{Paintings}
 use Rattle.answer_paintings.specs.Samples.{nodataShort, samplesI16}
-use Rattle.answer_paintings.specs.Paintings.{pixelWord, valueWords, plainWords, mark, inLanes, laneWords, paintingsBy, paintingsIn}
+use Rattle.answer_paintings.specs.Paintings.{colorOrNumber, valueWords, plainWords, mark, inLanes, laneWords, paintingsBy, paintingsIn}
 
 -- ---- counts
 pub at-most-40 : {count : ℕ} (word : ℕ) → count ≡ atMost word 40 → count ≤ 40
@@ -94,7 +94,7 @@ module _ (l : Legend) (nodata : Nodata) {h : Head} (e : h ≡ headOf l) where
   laned {L} {xs} {out} {scratch} {out'} {scratch'} {answer} = subst (λ (x : Head). LanePainting (painter (again x) nodata) L xs out scratch answer out' scratch') e
 
   abbrev pub wordBy : Head → Float → ℕ
-  wordBy x v = pixelWord (colorForValue (again x) nodata v)
+  wordBy x v = colorOrNumber (colorForValue (again x) nodata v)
 
   -- each by itself: samples that become floats, and floats
   pub values-are : {A : Type 0} {words : List ℕ} (float : A → Float) (z : A) (n : ℕ) (samples : List A) → n ≤ length samples → words ≡ padded 0 40 (tabulate n (λ k. wordBy h (float (getD samples k z)))) → words ≡ valueWords l nodata (map float (take n samples))

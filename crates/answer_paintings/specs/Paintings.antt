@@ -23,13 +23,13 @@ use Rattle.answer_paintings.specs.declared.Paintings.{Paintings}
 use Rattle.answer_paintings.specs.Samples.{nodataF32, nodataByte, nodataShort, samplesF32, samplesU8, samplesI16}
 
 -- ---- the colours of at most forty samples, in forty words
-abbrev pub pixelWord : PixelColor → ℕ
-pixelWord (Color word) = word
-pixelWord (Refused why) = numberOf why
+abbrev pub colorOrNumber : PixelColor → ℕ
+colorOrNumber (Color word) = word
+colorOrNumber (Refused why) = numberOf why
 
 -- each by itself
 unfoldable pub valueWords : Legend → Nodata → List Float → List ℕ
-valueWords legend nodata xs = padded 0 40 (map (λ v. pixelWord (colorForValue legend nodata v)) xs)
+valueWords legend nodata xs = padded 0 40 (map (λ v. colorOrNumber (colorForValue legend nodata v)) xs)
 
 -- an output of zeros is lent
 abbrev pub blank : List Float → List ℕ

@@ -11,7 +11,7 @@ use pixel_color::PixelColor;
 ghost use mathlib.Core.Path.{_≡_};
 ghost use Prim.Native.Nat.{_+_, _≤_};
 ghost use Rattle.answer_paintings.specs.Samples.{isGiven};
-ghost use Rattle.answer_paintings.specs.Paintings.{pixelWord, withLanes, withPaintings, paintingsOf};
+ghost use Rattle.answer_paintings.specs.Paintings.{colorOrNumber, withLanes, withPaintings, paintingsOf};
 
 // Whether a nodata value is given.
 pub fn is_given(row: &[u32; 1680]) -> bool
@@ -21,8 +21,8 @@ pub fn is_given(row: &[u32; 1680]) -> bool
 }
 
 // A sample's colour, or the number of the refusal.
-pub fn pixel_word(color: PixelColor) -> u32
-    ensures { λ r. ⌜ r ≡ pixelWord color ⌝ }
+pub fn color_or_number(color: PixelColor) -> u32
+    ensures { λ r. ⌜ r ≡ colorOrNumber color ⌝ }
 {
     match color {
         PixelColor::Color(word) => word,

@@ -5,6 +5,7 @@ use mathlib.Core.Path.{_≡_}
 use Rattle.answer_calls.specs.Rows.{lookupRow, lookedUp, asked}
 use Rattle.lookup.specs.Entries.{plainEntry, laneEntry}
 use Rattle.answer_calls.proofs.Calls.{looked-up}
+use Rattle.lists.proofs.LanesOf.{lane-at}
 use borrow.Author.Needs.{needs}
 use Rattle.answer_calls.proofs.lookups.Statement.{statement}
 use Rattle.answer_calls.proofs.lookups.Tie as tie
@@ -47,7 +48,7 @@ put-requires-3 c κs = search needs
 
 returns : tie.Need-returns
 unfolding lookupRow
-returns c = let f = c .before .before .before .before .before .before .before .before .before .before .before .before .fractions in let m = c .before .before .before .before .before .before .before .before .before .before .before .before .before .before .before .ramp .result in let plain : c .before .before .before .before .before .before .before .before .before .before .get-colors .result ≡ lookedUp plainEntry (m .ramp .cmap) (f .result) = looked-up plainEntry (m .ramp .cmap) (f .result) (search needs) (c .before .before .before .before .before .before .before .before .before .before .get-colors .ensures) in let lanes : c .before .before .before .before .before .before .before .before .get-color-simd .result ≡ lookedUp laneEntry (m .ramp .cmap) (f .result) = looked-up laneEntry (m .ramp .cmap) (f .result) (search needs) (c .before .before .before .before .before .before .before .before .get-color-simd .ensures) in cc (c .put3 .ensures, c .before .before .put2 .ensures, c .before .before .before .before .put .ensures, c .before .before .before .before .before .before .with-answer .ensures, c .before .before .before .before .before .before .before .asked .ensures, c .before .before .before .before .before .before .before .before .before .before .before .before .fractions .ensures, c .before .before .before .before .before .before .before .before .before .before .before .before .before .before .before .ramp .ensures)
+returns c = let f = c .before .before .before .before .before .before .before .before .before .before .before .before .fractions in let m = c .before .before .before .before .before .before .before .before .before .before .before .before .before .before .before .ramp .result in let plain : c .before .before .before .before .before .before .before .before .before .before .get-colors .result ≡ lookedUp plainEntry (m .ramp .cmap) (f .result) = looked-up plainEntry (m .ramp .cmap) (f .result) (search needs) (lane-at (c .before .before .before .before .before .before .before .before .before .before .get-colors .ensures) 0) in let lanes : c .before .before .before .before .before .before .before .before .get-color-simd .result ≡ lookedUp laneEntry (m .ramp .cmap) (f .result) = looked-up laneEntry (m .ramp .cmap) (f .result) (search needs) (lane-at (c .before .before .before .before .before .before .before .before .get-color-simd .ensures) 0) in cc (c .put3 .ensures, c .before .before .put2 .ensures, c .before .before .before .before .put .ensures, c .before .before .before .before .before .before .with-answer .ensures, c .before .before .before .before .before .before .before .asked .ensures, c .before .before .before .before .before .before .before .before .before .before .before .before .fractions .ensures, c .before .before .before .before .before .before .before .before .before .before .before .before .before .before .before .ramp .ensures)
 
 pub lookups-spec : {M : Type 1} → statement M
 lookups-spec =

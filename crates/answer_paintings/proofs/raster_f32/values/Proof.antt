@@ -8,13 +8,13 @@ use lib.Ieee.{nan}
 use Rattle.lists.proofs.Padding.{Storing, storing-start, storing-turn, storing-end}
 use Rattle.legend_head.specs.Lent.{lentLegend}
 use Rattle.pixel_color.specs.Values.{colorForValue}
-use Rattle.answer_paintings.specs.Paintings.{pixelWord}
+use Rattle.answer_paintings.specs.Paintings.{colorOrNumber}
 use Rattle.answer_paintings.proofs.Painting.{values-are, float-values}
 use Rattle.answer_paintings.proofs.raster_f32.values.Statement.{statement}
 use Rattle.answer_paintings.proofs.raster_f32.values.Tie as tie
 
 abbrev Inv-loop : tie.InvT-loop
-Inv-loop count nodata samples cmap keys colors lookup head words₀ i₀ words i = Storing 0 (λ k. pixelWord (colorForValue (lentLegend head cmap keys colors lookup) (nodata) (getD samples k nan))) 40 count i words
+Inv-loop count nodata samples cmap keys colors lookup head words₀ i₀ words i = Storing 0 (λ k. colorOrNumber (colorForValue (lentLegend head cmap keys colors lookup) (nodata) (getD samples k nan))) 40 count i words
 
 abbrev μ-loop : tie.MeasureT-loop
 μ-loop count nodata samples cmap keys colors lookup head words₀ i₀ words i = count - i
@@ -34,8 +34,8 @@ array-read-color-for-value c = search needs
 color-for-value-requires : tie.Need-color-for-value-requires Inv-loop μ-loop
 color-for-value-requires c κs = search needs
 
-pixel-word-requires : tie.Need-pixel-word-requires Inv-loop μ-loop
-pixel-word-requires c κs = search needs
+color-or-number-requires : tie.Need-color-or-number-requires Inv-loop μ-loop
+color-or-number-requires c κs = search needs
 
 mul-words : tie.Need-mul-words Inv-loop μ-loop
 mul-words c = search needs
@@ -52,7 +52,7 @@ loop-less c = search needs
 loop-again : tie.Need-loop-again Inv-loop μ-loop
 loop-again c =
     let s7 = c .before .before .before .before .before .before .before in
-    storing-turn (s7 .loop .inv) (omega arith) (omega arith) (c .pixel-word .ensures ∙ ap pixelWord (c .before .color-for-value .ensures))
+    storing-turn (s7 .loop .inv) (omega arith) (omega arith) (c .color-or-number .ensures ∙ ap colorOrNumber (c .before .color-for-value .ensures))
 
 returns : tie.Need-returns Inv-loop μ-loop
 returns c =
@@ -72,7 +72,7 @@ values-spec =
     mul-color-for-value
     array-read-color-for-value
     color-for-value-requires
-    pixel-word-requires
+    color-or-number-requires
     mul-words
     array-write-words
     add-i

@@ -12,13 +12,13 @@ use Rattle.cast.specs.Samples.{ofI16}
 use Rattle.cast.specs.Nodata.{nodataI16}
 use Rattle.legend_head.specs.Lent.{lentLegend}
 use Rattle.pixel_color.specs.Values.{colorForValue}
-use Rattle.answer_paintings.specs.Paintings.{pixelWord}
+use Rattle.answer_paintings.specs.Paintings.{colorOrNumber}
 use Rattle.answer_paintings.proofs.Painting.{values-are}
 use Rattle.answer_paintings.proofs.raster_i16.values.Statement.{statement}
 use Rattle.answer_paintings.proofs.raster_i16.values.Tie as tie
 
 abbrev Inv-loop : tie.InvT-loop
-Inv-loop count nodata samples cmap keys colors lookup head words₀ i₀ words i = Storing 0 (λ k. pixelWord (colorForValue (lentLegend head cmap keys colors lookup) (nodataI16 (nodata)) (ofI16 (getD samples k (pos 0))))) 40 count i words
+Inv-loop count nodata samples cmap keys colors lookup head words₀ i₀ words i = Storing 0 (λ k. colorOrNumber (colorForValue (lentLegend head cmap keys colors lookup) (nodataI16 (nodata)) (ofI16 (getD samples k (pos 0))))) 40 count i words
 
 abbrev μ-loop : tie.MeasureT-loop
 μ-loop count nodata samples cmap keys colors lookup head words₀ i₀ words i = count - i
@@ -38,8 +38,8 @@ array-copy-out-color-for-value-i16 c = search needs
 color-for-value-i16-requires : tie.Need-color-for-value-i16-requires Inv-loop μ-loop
 color-for-value-i16-requires c κs = search needs
 
-pixel-word-requires : tie.Need-pixel-word-requires Inv-loop μ-loop
-pixel-word-requires c κs = search needs
+color-or-number-requires : tie.Need-color-or-number-requires Inv-loop μ-loop
+color-or-number-requires c κs = search needs
 
 mul-words : tie.Need-mul-words Inv-loop μ-loop
 mul-words c = search needs
@@ -54,7 +54,7 @@ loop-less : tie.Need-loop-less Inv-loop μ-loop
 loop-less c = search needs
 
 loop-again : tie.Need-loop-again Inv-loop μ-loop
-loop-again c = let a = c .before .before .before .before .before .before .before .before .before .before .before .before .before .before .before .before .args in storing-turn (c .before .before .before .before .before .before .before .before .loop .inv) (omega arith) (omega arith) (c .pixel-word .ensures ∙ ap pixelWord (c .before .color-for-value-i16 .ensures ∙ ap (λ (x : ℤ). colorForValue (lentLegend (c .before .before .before .before .before .before .before .before .before .head-of .result) (a .legend .linear .cmap) (a .legend .categoric .keys) (a .legend .categoric .colors) (a .legend .categoric .lookup)) (nodataI16 (a .nodata)) (ofI16 x)) (toZ-ofZ w16 (getD (a .t2) (c .before .before .before .before .before .before .before .before .loop .i) (pos 0)) (record { sfits = c .before .before .color-for-value-i16-arg .given }))))
+loop-again c = let a = c .before .before .before .before .before .before .before .before .before .before .before .before .before .before .before .before .args in storing-turn (c .before .before .before .before .before .before .before .before .loop .inv) (omega arith) (omega arith) (c .color-or-number .ensures ∙ ap colorOrNumber (c .before .color-for-value-i16 .ensures ∙ ap (λ (x : ℤ). colorForValue (lentLegend (c .before .before .before .before .before .before .before .before .before .head-of .result) (a .legend .linear .cmap) (a .legend .categoric .keys) (a .legend .categoric .colors) (a .legend .categoric .lookup)) (nodataI16 (a .nodata)) (ofI16 x)) (toZ-ofZ w16 (getD (a .t2) (c .before .before .before .before .before .before .before .before .loop .i) (pos 0)) (record { sfits = c .before .before .color-for-value-i16-arg .given }))))
 
 returns : tie.Need-returns Inv-loop μ-loop
 returns c = let s = c .before .before .before .before .before .before .before .before .before in let a = s .args in values-are (a .legend) (nodataI16 (a .nodata)) (c .before .before .head-of .ensures) (ofI16) (pos 0) (a .count) (a .t2) (search needs) (storing-end (c .before .loop .inv) (omega arith))
@@ -70,7 +70,7 @@ values-spec =
     mul-color-for-value-i16
     array-copy-out-color-for-value-i16
     color-for-value-i16-requires
-    pixel-word-requires
+    color-or-number-requires
     mul-words
     array-write-words
     add-i

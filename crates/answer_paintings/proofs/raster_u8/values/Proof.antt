@@ -9,13 +9,13 @@ use Rattle.cast.specs.Samples.{ofU8}
 use Rattle.cast.specs.Nodata.{nodataU8}
 use Rattle.legend_head.specs.Lent.{lentLegend}
 use Rattle.pixel_color.specs.Values.{colorForValue}
-use Rattle.answer_paintings.specs.Paintings.{pixelWord}
+use Rattle.answer_paintings.specs.Paintings.{colorOrNumber}
 use Rattle.answer_paintings.proofs.Painting.{values-are}
 use Rattle.answer_paintings.proofs.raster_u8.values.Statement.{statement}
 use Rattle.answer_paintings.proofs.raster_u8.values.Tie as tie
 
 abbrev Inv-loop : tie.InvT-loop
-Inv-loop count nodata samples cmap keys colors lookup head words₀ i₀ words i = Storing 0 (λ k. pixelWord (colorForValue (lentLegend head cmap keys colors lookup) (nodataU8 (nodata)) (ofU8 (getD samples k 0)))) 40 count i words
+Inv-loop count nodata samples cmap keys colors lookup head words₀ i₀ words i = Storing 0 (λ k. colorOrNumber (colorForValue (lentLegend head cmap keys colors lookup) (nodataU8 (nodata)) (ofU8 (getD samples k 0)))) 40 count i words
 
 abbrev μ-loop : tie.MeasureT-loop
 μ-loop count nodata samples cmap keys colors lookup head words₀ i₀ words i = count - i
@@ -32,8 +32,8 @@ array-read-color-for-value-u8 c = search needs
 color-for-value-u8-requires : tie.Need-color-for-value-u8-requires Inv-loop μ-loop
 color-for-value-u8-requires c κs = search needs
 
-pixel-word-requires : tie.Need-pixel-word-requires Inv-loop μ-loop
-pixel-word-requires c κs = search needs
+color-or-number-requires : tie.Need-color-or-number-requires Inv-loop μ-loop
+color-or-number-requires c κs = search needs
 
 mul-words : tie.Need-mul-words Inv-loop μ-loop
 mul-words c = search needs
@@ -50,7 +50,7 @@ loop-less c = search needs
 loop-again : tie.Need-loop-again Inv-loop μ-loop
 loop-again c =
     let s7 = c .before .before .before .before .before .before .before in
-    storing-turn (s7 .loop .inv) (omega arith) (omega arith) (c .pixel-word .ensures ∙ ap pixelWord (c .before .color-for-value-u8 .ensures))
+    storing-turn (s7 .loop .inv) (omega arith) (omega arith) (c .color-or-number .ensures ∙ ap colorOrNumber (c .before .color-for-value-u8 .ensures))
 
 returns : tie.Need-returns Inv-loop μ-loop
 returns c =
@@ -69,7 +69,7 @@ values-spec =
     loop-holds
     array-read-color-for-value-u8
     color-for-value-u8-requires
-    pixel-word-requires
+    color-or-number-requires
     mul-words
     array-write-words
     add-i
