@@ -4,6 +4,9 @@ mod tell;
 
 use answer_rows::part;
 use answer_rows::value;
+ghost use mathlib.Core.Path.{_≡_};
+ghost use lib.ListN.{getD};
+ghost use Rattle.replay_file.specs.Tally.{counted, kindOf, differing};
 
 // Reads a word; 0 where the file has ended.
 fn read_word(fd: i32) -> u32 {
@@ -13,7 +16,9 @@ fn read_word(fd: i32) -> u32 {
 }
 
 // Compares a row with what we make of it.
-fn compare(number: u64, row: &[u32; 1680], rows: &mut [u64; 13], differ: &mut [u64; 13]) {
+fn compare(number: u64, row: &[u32; 1680], rows: &mut [u64; 13], differ: &mut [u64; 13])
+    ensures { λ _. ⌜ (now (rows .exit) ≡ counted (kindOf (getD (now (row .entry)) 0 0)) (now (rows .entry))) × (now (differ .exit) ≡ differing (now (row .entry)) (now (differ .entry))) ⌝ }
+{
     let at = worked_rows::difference(row);
     let kind = tally::kind_of(row[0]);
     let same = tally::is_same(kind, at);

@@ -1,20 +1,19 @@
 // How many rows there are of each kind, and how many of them differ.
 ghost use mathlib.Core.Path.{_≡_};
-ghost use mathlib.Core.Bool.{cond, _&&_};
+ghost use mathlib.Core.Bool.{cond};
 ghost use Prim.Native.Nat.{_<_};
-ghost use lib.Dec.{ltb, eqb};
-ghost use Rattle.replay_file.specs.Tally.{counted, sumTo};
+ghost use Rattle.replay_file.specs.Tally.{counted, kindOf, isSame, sumTo};
 
 // The kind of a row, and 12 for one that is malformed.
 pub fn kind_of(word: u32) -> usize
-    ensures { λ r. ⌜ (r ≡ cond (ltb word 12) word 12) × (r < 13) ⌝ }
+    ensures { λ r. ⌜ (r ≡ kindOf word) × (r < 13) ⌝ }
 {
     if word < 12 { word as usize } else { 12 }
 }
 
 // Whether a row is of a kind and differs nowhere.
 pub fn is_same(kind: usize, at: usize) -> bool
-    ensures { λ r. ⌜ r ≡ (ltb kind 12 && eqb at 1680) ⌝ }
+    ensures { λ r. ⌜ r ≡ isSame kind at ⌝ }
 {
     (kind < 12) & (at == 1680)
 }
