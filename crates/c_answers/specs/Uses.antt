@@ -1,4 +1,5 @@
--- The colour of a sample, the whole range of values and the list of colours as C reads them. What the call's own arguments are refused by comes first. Definitions only.
+-- The colour of a sample, the whole range of values and the list of colours as C reads them. What the call's own arguments are refused by comes first.
+-- Definitions only.
 use lib.ListN.{replicate}
 use Rattle.floats.specs.RampIndex.{nought}
 use Rattle.refusal.specs.declared.Answer.{Answer}
@@ -17,7 +18,12 @@ unfoldable pub pixelToC : (first : Answer) → PixelColor → LegendColor
 pixelToC first p = record { answer = answerOf (firstOf first (pixelAnswer p)); color = ifDone first (pixelWord p) 0 }
 
 unfoldable pub rangeToC : (first : Answer) → TotalRange → LegendValueRange
-rangeToC first r = record { answer = answerOf (firstOf first (rangeAnswer r)); start = ifDone first (rangeValues r .start) nought; end = ifDone first (rangeValues r .end) nought }
+rangeToC first r =
+    record {
+      answer = answerOf (firstOf first (rangeAnswer r));
+      start = ifDone first (rangeValues r .start) nought;
+      end = ifDone first (rangeValues r .end) nought;
+    }
 
 unfoldable pub listToC : (first : Answer) → ColorList → LegendColorList
 listToC first l = record { answer = answerOf (firstOf first (l .answer)); colors = ifDone first (l .colors) (replicate 256 0) }

@@ -1,4 +1,5 @@
--- Painting as C calls it: by the legend that is lent, refused first by what the call's own flags and kind are refused by; the answer as C reads it. Definitions only.
+-- Painting as C calls it: by the legend that is lent, refused first by what the call's own flags and kind are refused by; the answer as C reads it.
+-- Definitions only.
 use Prim.Native.Nat.{ℕ}
 use mathlib.Core.Path.{_≡_}
 use mathlib.Core.List.{List}

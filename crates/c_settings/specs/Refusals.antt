@@ -1,4 +1,5 @@
--- What the interface refuses by itself, before the table of docs/RULES.md: 100 a flag that is neither 0 nor 1, 101 a kind that is none of 0, 1, 2. Definitions only.
+-- What the interface refuses by itself, before the table of docs/RULES.md: 100 a flag that is neither 0 nor 1, 101 a kind that is none of 0, 1, 2.
+-- Definitions only.
 use Prim.Native.Nat.{ℕ}
 use mathlib.Core.Bool.{Bool, not, _&&_}
 use lib.Dec.{ltb}

@@ -69,14 +69,15 @@ OddIn kind.CategoricNumeric l nodata v = ⊥
 abbrev pub Odd : Legend → Nodata → (sample : Float) → Type 0
 Odd l = OddIn (l .kind) l
 
--- The rule for a legend, over the outputs that its plain paintings leave (`Plain nodata raster output`) and those that its lane paintings leave (`Lanes nodata L raster output`)
+-- The rule for a legend, over the outputs that its plain paintings leave (`Plain nodata raster output`) and those that its lane paintings leave
+-- (`Lanes nodata L raster output`)
 pub record ChunkingRule (l : Legend) (Plain : Nodata → Raster → List ℕ → Type 0) (Lanes : Nodata → ℕ → Raster → List ℕ → Type 0) : Type 0 where
   -- a pixel of a lane painting is that of the plain painting of the same raster, unless it lies in a full chunk and is the exception
   pub same : (nodata : Nodata) (L : ℕ) (r : Raster) (plain lanes : List ℕ) → Plain nodata r plain → Lanes nodata L r lanes → (i : ℕ) → i < length (samples r)
       → (getD lanes i 0 ≡ getD plain i 0) ⊎ ((i < full L (length (samples r))) × Odd l nodata (sampleAt r i))
   -- there it has the ramp's entry 1 from lane painting, and entry 0 from plain painting
-  pub differs : (nodata : Nodata) (L : ℕ) (r : Raster) (plain lanes : List ℕ) → Plain nodata r plain → Lanes nodata L r lanes → (i : ℕ) → i < full L (length (samples r))
-      → Odd l nodata (sampleAt r i) → (getD lanes i 0 ≡ getD (l .linear .cmap) 1 0) × (getD plain i 0 ≡ getD (l .linear .cmap) 0 0)
+  pub differs : (nodata : Nodata) (L : ℕ) (r : Raster) (plain lanes : List ℕ) → Plain nodata r plain → Lanes nodata L r lanes
+      → (i : ℕ) → i < full L (length (samples r)) → Odd l nodata (sampleAt r i) → (getD lanes i 0 ≡ getD (l .linear .cmap) 1 0) × (getD plain i 0 ≡ getD (l .linear .cmap) 0 0)
   -- two rasters of one length with the same sample at a pixel have the same colour there from lane painting
   pub alone : (nodata : Nodata) (L : ℕ) (r s : Raster) (out out' : List ℕ) → Lanes nodata L r out → Lanes nodata L s out'
       → length (samples r) ≡ length (samples s) → (i : ℕ) → i < length (samples r) → SameSample (sampleAt r i) (sampleAt s i) → getD out i 0 ≡ getD out' i 0
