@@ -419,7 +419,7 @@ static Buffers painted(const Case *test, const uint32_t *colors, size_t count, s
 
 /* The parts of a legend as the library's own calls take them, written out. */
 #define PARTS(legend)                                                                                          \
-    CALL(legend_head)(legend), (legend)->banded, (legend)->linear.cmap, (legend)->categoric.keys,              \
+    CALL(legend_view)(legend), (legend)->banded, (legend)->linear.cmap, (legend)->categoric.keys,              \
         (legend)->categoric.colors, (legend)->categoric.lookup
 
 /* For one type of sample: the header's functions and the library's own calls give the same, and what is expected. */
@@ -532,7 +532,7 @@ USES(i16)
 
 /* The head of a legend, field by field. */
 static void heads(const LegendRecord *legend) {
-    const LegendHead head = CALL(legend_head)(legend);
+    const LegendHead head = CALL(legend_view)(legend);
     EXPECT(head.kind == legend->kind && head.start == 10.0f && head.end == 20.0f);
     EXPECT(head.count == 2 && head.lookup_count == legend->categoric.lookup_count);
     EXPECT(head.settings.nodata_color == NODATA && head.settings.low_color == LOW);

@@ -10,10 +10,10 @@ use Rattle.refusal.specs.declared.Answer.{Answer}
 use Rattle.refusal.specs.declared.Answer.the-variants.{Done, Refused}
 use Rattle.refusal.specs.declared.Refusal.{Refusal}
 use Rattle.colormap.specs.Positions.{rampColors}
-use Rattle.legend_band.specs.declared.LegendBand.{LegendBand}
-use Rattle.band_lists.specs.Places.{placesOf}
-use Rattle.band_lists.specs.EqualBands.{equalBands, equalRefusal}
-use Rattle.band_lists.proofs.Equal.{equal-same, equal-length, equal-padded}
+use Rattle.banded_columns.specs.declared.LegendBand.{LegendBand}
+use Rattle.banded_lists.specs.Places.{placesOf}
+use Rattle.banded_lists.specs.EqualBands.{equalBands, equalRefusal}
+use Rattle.banded_lists.proofs.Equal.{equal-same, equal-length, equal-padded}
 use Rattle.banded.specs.declared.Banded.{Banded}
 use Rattle.banded.specs.declared.MadeBanded.{MadeBanded}
 use Rattle.banded.specs.Record.{bandedOf}

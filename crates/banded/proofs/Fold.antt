@@ -48,11 +48,11 @@ use denote.Triple.Statement.{Contract, Triple}
 use denote.Triple.Walked.{says, needs, Stays, stay-none-slice, stay-none, walkOf, goes-none-slice, goes-none, Walks, ends-at, walked, walk-meets}
 use denote.Exit.{yes, Last, left}
 use Rattle.banded.specs.Given.{folded}
-use Rattle.legend_band.specs.declared.LegendBand.{LegendBand}
-use Rattle.band_columns.proofs.Past.{noBand}
+use Rattle.banded_columns.specs.declared.LegendBand.{LegendBand}
+use Rattle.banded_columns.proofs.Past.{noBand}
 use Rattle.banded.proofs.Rows.{Band, band-vals, band-tells, band-copy, band-makes, band-typed, offset-fits, tests}
 use denote.Struct.Laws as LL
-use Rattle.legend_band.proofs.LegendBand.Laws as T′
+use Rattle.banded_columns.proofs.LegendBand.Laws as T′
 
 -- ---- a fold over one band more
 module _ {X : Type 0} (step : X → LegendBand → X) where

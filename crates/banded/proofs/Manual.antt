@@ -8,11 +8,11 @@ use Rattle.lists.specs.Padded.{padded}
 use Rattle.refusal.specs.declared.Answer.{Answer}
 use Rattle.refusal.specs.declared.Answer.the-variants.{Done, Refused}
 use Rattle.refusal.specs.declared.Refusal.{Refusal}
-use Rattle.legend_band.specs.declared.LegendBand.{LegendBand}
-use Rattle.band_lists.specs.declared.ValueRanges.{ValueRanges}
-use Rattle.band_lists.specs.Places.{placesOf}
-use Rattle.band_lists.specs.ManualRanges.{rangesOf, rangeBands, manualRefusal}
-use Rattle.band_lists.proofs.Manual.{manual-same, range-padded}
+use Rattle.banded_columns.specs.declared.LegendBand.{LegendBand}
+use Rattle.banded_lists.specs.declared.ValueRanges.{ValueRanges}
+use Rattle.banded_lists.specs.Places.{placesOf}
+use Rattle.banded_lists.specs.ManualRanges.{rangesOf, rangeBands, manualRefusal}
+use Rattle.banded_lists.proofs.Manual.{manual-same, range-padded}
 use Rattle.banded.specs.declared.Banded.{Banded}
 use Rattle.banded.specs.declared.MadeBanded.{MadeBanded}
 use Rattle.banded.specs.Record.{bandedOf}

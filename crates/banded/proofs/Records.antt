@@ -8,8 +8,8 @@ use Rattle.refusal.specs.declared.Refusal.{Refusal}
 use Rattle.refusal.specs.declared.Answer.{Answer}
 use Rattle.refusal.specs.declared.Answer.the-variants.{Done, Refused}
 use Rattle.refusal.proofs.Outcomes.{when-done, when-refused}
-use Rattle.legend_band.specs.declared.LegendBand.{LegendBand}
-use Rattle.band_lists.specs.Places.{blankBand, placesOf}
+use Rattle.banded_columns.specs.declared.LegendBand.{LegendBand}
+use Rattle.banded_lists.specs.Places.{blankBand, placesOf}
 use Rattle.banded.specs.declared.Banded.{Banded}
 use Rattle.banded.specs.declared.MadeBanded.{MadeBanded}
 use Rattle.banded.specs.Record.{bandedOf, counted, beside}

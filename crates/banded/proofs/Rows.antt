@@ -15,11 +15,11 @@ use types.Run.{Opd, first, branches, skips, jumps}
 use denote.RattleType.{RattleType}
 use denote.Laws.{Is, Tells, Copy, Makes}
 use denote.Slice.{Room}
-use Rattle.legend_band.specs.declared.LegendBand.{LegendBand}
+use Rattle.banded_columns.specs.declared.LegendBand.{LegendBand}
 use Rattle.banded.specs.declared.Banded.{Banded}
 use denote.Struct.Laws as LL
-use Rattle.legend_band.proofs.LegendBand as T
-use Rattle.legend_band.proofs.LegendBand.Laws as T′
+use Rattle.banded_columns.proofs.LegendBand as T
+use Rattle.banded_columns.proofs.LegendBand.Laws as T′
 use Rattle.banded.proofs.Banded as B
 use Rattle.banded.proofs.Banded.Laws as B′
 

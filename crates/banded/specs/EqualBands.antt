@@ -3,7 +3,7 @@ use Prim.Native.Nat.{ℕ}
 use mathlib.Core.List.{List}
 use lib.Ieee.{Float}
 use lib.ListN.{length}
-use Rattle.band_lists.specs.EqualBands.{equalBands, equalRefusal}
+use Rattle.banded_lists.specs.EqualBands.{equalBands, equalRefusal}
 use Rattle.banded.specs.declared.MadeBanded.{MadeBanded}
 use Rattle.banded.specs.Record.{madeBanded}
 

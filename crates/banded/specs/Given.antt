@@ -8,7 +8,7 @@ use Rattle.refusal.specs.declared.Refusal.the-variants.{TooManyBands}
 use Rattle.refusal.specs.declared.Answer.{Answer}
 use Rattle.refusal.specs.declared.Answer.the-variants.{Done}
 use Rattle.refusal.specs.Outcome.{refuseIf}
-use Rattle.legend_band.specs.declared.LegendBand.{LegendBand}
+use Rattle.banded_columns.specs.declared.LegendBand.{LegendBand}
 use Rattle.banded.specs.declared.Banded.{Banded}
 use Rattle.banded.specs.declared.MadeBanded.{MadeBanded}
 use Rattle.banded.specs.Record.{madeBanded}

@@ -2,8 +2,8 @@
 use Prim.Native.Nat.{ℕ}
 use mathlib.Core.List.{List}
 use lib.ListN.{length}
-use Rattle.band_lists.specs.declared.ValueRanges.{ValueRanges}
-use Rattle.band_lists.specs.ManualRanges.{rangesOf, rangeBands, manualRefusal}
+use Rattle.banded_lists.specs.declared.ValueRanges.{ValueRanges}
+use Rattle.banded_lists.specs.ManualRanges.{rangesOf, rangeBands, manualRefusal}
 use Rattle.banded.specs.declared.MadeBanded.{MadeBanded}
 use Rattle.banded.specs.Record.{madeBanded}
 

@@ -7,8 +7,8 @@ use Rattle.refusal.specs.declared.Refusal.the-variants.{CountAboveCapacity}
 use Rattle.refusal.specs.declared.Answer.{Answer}
 use Rattle.refusal.specs.declared.Answer.the-variants.{Done}
 use Rattle.refusal.specs.Outcome.{refuseIf, ifDone}
-use Rattle.legend_band.specs.declared.LegendBand.{LegendBand}
-use Rattle.band_lists.specs.Places.{placesOf}
+use Rattle.banded_columns.specs.declared.LegendBand.{LegendBand}
+use Rattle.banded_lists.specs.Places.{placesOf}
 use Rattle.banded.specs.declared.Banded.{Banded}
 use Rattle.banded.specs.declared.MadeBanded.{MadeBanded}
 

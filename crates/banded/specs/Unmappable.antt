@@ -3,8 +3,8 @@ use mathlib.Core.List.{List}
 use Rattle.colormapper.specs.declared.MappingConfig.{MappingConfig}
 use Rattle.colormapper.specs.declared.UnmappableColors.{UnmappableColors}
 use Rattle.colormapper.specs.Settings.{unmappableColors}
-use Rattle.legend_band.specs.declared.LegendBand.{LegendBand}
-use Rattle.band_columns.specs.OuterColors.{firstColorOr, lastColorOr}
+use Rattle.banded_columns.specs.declared.LegendBand.{LegendBand}
+use Rattle.banded_columns.specs.OuterColors.{firstColorOr, lastColorOr}
 
 -- low by the first, high by the last, both nodata with no bands
 abbrev pub bandedUnmappable : List LegendBand → MappingConfig → UnmappableColors

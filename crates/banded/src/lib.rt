@@ -1,8 +1,8 @@
 // The banded legend: its record, its builders, and what the painters need of it (docs/RULES.md, "Banded").
-use band_lists::ValueRanges;
+use banded_columns::LegendBand;
+use banded_lists::ValueRanges;
 use colormapper::MappingConfig;
 use colormapper::UnmappableColors;
-use legend_band::LegendBand;
 use refusal::Answer;
 use refusal::Refusal;
 ghost use mathlib.Core.Path.{_≡_};
@@ -38,7 +38,7 @@ impl Banded {
         ensures { λ r. ⌜ r ≡ bandedOf [] ⌝ }
     {
         Banded {
-            bands: band_lists::no_bands(),
+            bands: banded_lists::no_bands(),
             count: 0,
         }
     }
@@ -50,7 +50,7 @@ impl Banded {
         let n = bands.len();
         given(
             n,
-            with_bands(Banded::default(), bands, band_columns::at_most_64(n)),
+            with_bands(Banded::default(), bands, banded_columns::at_most_64(n)),
         )
     }
 
@@ -58,14 +58,14 @@ impl Banded {
     pub fn with_equal_bands(count: usize, start: f32, end: f32, colors: &[u32]) -> MadeBanded
         ensures { λ r. ⌜ r ≡ withEqualBands count start end (now (colors .entry)) ⌝ }
     {
-        let answer = band_lists::equal_refusal(count, start, end, colors.len());
+        let answer = banded_lists::equal_refusal(count, start, end, colors.len());
         if let Answer::Refused(_) = answer {
             return MadeBanded {
                 answer,
                 banded: Banded::default(),
             };
         }
-        let bands = band_lists::equal_bands(count, start, end, colormap::list_colors(colors));
+        let bands = banded_lists::equal_bands(count, start, end, colormap::list_colors(colors));
         MadeBanded {
             answer,
             banded: Banded { bands, count },
@@ -81,14 +81,19 @@ impl Banded {
     ) -> MadeBanded
         ensures { λ r. ⌜ r ≡ withEqualBands count start end (rampColors count (now (cmap .entry))) ⌝ }
     {
-        let answer = band_lists::equal_refusal(count, start, end, count);
+        let answer = banded_lists::equal_refusal(count, start, end, count);
         if let Answer::Refused(_) = answer {
             return MadeBanded {
                 answer,
                 banded: Banded::default(),
             };
         }
-        let bands = band_lists::equal_bands(count, start, end, colormap::ramp_colors(cmap, count));
+        let bands = banded_lists::equal_bands(
+            count,
+            start,
+            end,
+            colormap::ramp_colors(cmap, count),
+        );
         MadeBanded {
             answer,
             banded: Banded { bands, count },
@@ -99,7 +104,7 @@ impl Banded {
     pub fn with_manual_ranges(values: ValueRanges, colors: &[u32]) -> MadeBanded
         ensures { λ r. ⌜ r ≡ withManualRanges values (now (colors .entry)) ⌝ }
     {
-        let answer = band_lists::manual_refusal(values, colors.len());
+        let answer = banded_lists::manual_refusal(values, colors.len());
         if let Answer::Refused(_) = answer {
             return MadeBanded {
                 answer,
@@ -108,7 +113,7 @@ impl Banded {
         }
         let ranges = values.ranges;
         let count = values.count;
-        let bands = band_lists::range_bands(ranges, count, colormap::list_colors(colors));
+        let bands = banded_lists::range_bands(ranges, count, colormap::list_colors(colors));
         MadeBanded {
             answer,
             banded: Banded { bands, count },
@@ -120,7 +125,7 @@ impl Banded {
         ensures { λ r. ⌜ r ≡ withManualRanges values (rampColors (values .count) (now (cmap .entry))) ⌝ }
     {
         let count = values.count;
-        let answer = band_lists::manual_refusal(values, count);
+        let answer = banded_lists::manual_refusal(values, count);
         if let Answer::Refused(_) = answer {
             return MadeBanded {
                 answer,
@@ -128,7 +133,7 @@ impl Banded {
             };
         }
         let ranges = values.ranges;
-        let bands = band_lists::range_bands(ranges, count, colormap::ramp_colors(cmap, count));
+        let bands = banded_lists::range_bands(ranges, count, colormap::ramp_colors(cmap, count));
         MadeBanded {
             answer,
             banded: Banded { bands, count },
@@ -200,7 +205,7 @@ pub fn unmappable_colors(banded: Banded, config: MappingConfig) -> UnmappableCol
     let nodata = config.nodata_color;
     let bands = banded.bands;
     let count = banded.count;
-    let low = band_columns::first_color(bands, count, nodata);
-    let high = band_columns::last_color(bands, count, nodata);
+    let low = banded_columns::first_color(bands, count, nodata);
+    let high = banded_columns::last_color(bands, count, nodata);
     colormapper::compute_unmappable_colors(config, low, high)
 }

@@ -4,11 +4,11 @@ use lib.ListN.{replicate}
 use Rattle.floats.specs.RampIndex.{nought}
 use Rattle.refusal.specs.declared.Answer.{Answer}
 use Rattle.refusal.specs.Outcome.{ifDone, firstOf}
-use Rattle.value_range.specs.declared.TotalRange.{TotalRange}
-use Rattle.value_range.specs.ValueRanges.{rangeAnswer, rangeValues}
-use Rattle.pixel_color.specs.declared.PixelColor.{PixelColor}
-use Rattle.pixel_color.specs.Values.{pixelAnswer, pixelWord}
-use Rattle.apply.specs.declared.ColorList.{ColorList}
+use Rattle.legend_range.specs.declared.TotalRange.{TotalRange}
+use Rattle.legend_range.specs.ValueRanges.{rangeAnswer, rangeValues}
+use Rattle.legend_pixel.specs.declared.PixelColor.{PixelColor}
+use Rattle.legend_pixel.specs.Values.{pixelAnswer, pixelWord}
+use Rattle.legend_apply.specs.declared.ColorList.{ColorList}
 use Rattle.c_answers.specs.declared.colors.LegendColor.{LegendColor}
 use Rattle.c_answers.specs.declared.uses.LegendValueRange.{LegendValueRange}
 use Rattle.c_answers.specs.declared.uses.LegendColorList.{LegendColorList}

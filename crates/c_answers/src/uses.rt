@@ -1,11 +1,11 @@
 // What a legend is used for: the colour of a sample, the whole range of its values, the list of its colours.
 use crate::colors::LegendColor;
-use apply::ColorList;
 use c_types::answer;
 use c_types::answer::LegendAnswer;
-use pixel_color::PixelColor;
+use legend_apply::ColorList;
+use legend_pixel::PixelColor;
+use legend_range::TotalRange;
 use refusal::Answer;
-use value_range::TotalRange;
 ghost use mathlib.Core.Path.{_≡_};
 ghost use Rattle.c_answers.specs.Uses.{pixelToC, rangeToC, listToC};
 

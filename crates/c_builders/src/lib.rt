@@ -1,14 +1,14 @@
 // The builders for C and Rust (include/legend.h). The flags of the settings are looked at first; else what the kind's builder says (docs/RULES.md).
-use band_lists::ValueRanges;
 use banded::Banded;
 use banded::MadeBanded;
+use banded_columns::LegendBand;
+use banded_lists::ValueRanges;
 use c_records::record;
 use c_records::record::LegendMade;
-use c_settings::refusals;
-use c_settings::settings;
-use c_settings::settings::LegendSettings;
+use c_types::refusals;
+use c_types::settings;
+use c_types::settings::LegendSettings;
 use colormap::ProcessedColorMap;
-use legend_band::LegendBand;
 ghost use mathlib.Core.Path.{_≡_};
 ghost use Rattle.colormap.specs.Positions.{rampColors};
 ghost use Rattle.linear.specs.Made.{linearOfRamp, linearOfList};
@@ -17,8 +17,8 @@ ghost use Rattle.banded.specs.ManualRanges.{withManualRanges};
 ghost use Rattle.banded.specs.Given.{withBandsGiven};
 ghost use Rattle.catgegoric.specs.Made.{forValues, forValuesFromRamp, forValueRange, forValueRangeFromRamp};
 ghost use Rattle.legend_builders.specs.Building.{madeLinear, madeBanded, madeCategoric};
-ghost use Rattle.c_settings.specs.Settings.{settingsOf};
-ghost use Rattle.c_settings.specs.Refusals.{settingsRefusal};
+ghost use Rattle.c_types.specs.Settings.{settingsOf};
+ghost use Rattle.c_types.specs.Refusals.{settingsRefusal};
 ghost use Rattle.c_records.specs.Records.{madeToC};
 
 #[no_mangle]

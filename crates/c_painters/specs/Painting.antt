@@ -10,10 +10,10 @@ use Rattle.painting.specs.Contracts.{Painter, refusedFirst, plainAnswer, laneAn
 use Rattle.banded.specs.declared.Banded.{Banded}
 use Rattle.legend.specs.declared.Legend.{Legend}
 use Rattle.legend.specs.Painters.{painter}
-use Rattle.legend_head.specs.Lent.{lentLegend}
+use Rattle.legend_view.specs.Lent.{lentLegend}
 use Rattle.c_types.specs.declared.answer.LegendAnswer.{LegendAnswer}
 use Rattle.c_types.specs.Answers.{answerOf}
-use Rattle.c_settings.specs.Refusals.{useRefusal}
+use Rattle.c_types.specs.Refusals.{useRefusal}
 use Rattle.c_records.specs.declared.head.LegendHead.{LegendHead}
 use Rattle.c_records.specs.Heads.{headGiven}
 

@@ -2,9 +2,9 @@
 use banded::Banded;
 use c_records::head;
 use c_records::head::LegendHead;
-use c_settings::refusals;
 use c_types::answer;
 use c_types::answer::LegendAnswer;
+use c_types::refusals;
 use c_types::samples;
 use refusal::Answer;
 ghost use mathlib.Core.List.{map};
@@ -34,7 +34,7 @@ pub extern "C" fn legend_lent_paint_lanes_f32(
     if let Answer::Refused(_) = first {
         return answer::to_c(first);
     }
-    answer::to_c(apply_kernel::apply_to_data_kernel(
+    answer::to_c(legend_kernel::apply_to_data_kernel(
         head::head_given(head, banded),
         cmap,
         keys,
@@ -69,7 +69,7 @@ pub extern "C" fn legend_lent_paint_lanes_u8(
     if let Answer::Refused(_) = first {
         return answer::to_c(first);
     }
-    answer::to_c(apply_kernel::apply_to_data_kernel_u8(
+    answer::to_c(legend_kernel::apply_to_data_kernel_u8(
         head::head_given(head, banded),
         cmap,
         keys,
@@ -104,7 +104,7 @@ pub extern "C" fn legend_lent_paint_lanes_i16(
     if let Answer::Refused(_) = first {
         return answer::to_c(first);
     }
-    answer::to_c(apply_kernel::apply_to_data_kernel_i16(
+    answer::to_c(legend_kernel::apply_to_data_kernel_i16(
         head::head_given(head, banded),
         cmap,
         keys,

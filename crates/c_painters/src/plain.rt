@@ -2,9 +2,9 @@
 use banded::Banded;
 use c_records::head;
 use c_records::head::LegendHead;
-use c_settings::refusals;
 use c_types::answer;
 use c_types::answer::LegendAnswer;
+use c_types::refusals;
 use c_types::samples;
 use refusal::Answer;
 ghost use mathlib.Core.List.{map};
@@ -32,7 +32,7 @@ pub extern "C" fn legend_lent_paint_f32(
     if let Answer::Refused(_) = first {
         return answer::to_c(first);
     }
-    answer::to_c(apply_scalar::apply_to_data_scalar(
+    answer::to_c(legend_scalar::apply_to_data_scalar(
         head::head_given(head, banded),
         cmap,
         keys,
@@ -63,7 +63,7 @@ pub extern "C" fn legend_lent_paint_u8(
     if let Answer::Refused(_) = first {
         return answer::to_c(first);
     }
-    answer::to_c(apply_scalar::apply_to_data_scalar_u8(
+    answer::to_c(legend_scalar::apply_to_data_scalar_u8(
         head::head_given(head, banded),
         cmap,
         keys,
@@ -94,7 +94,7 @@ pub extern "C" fn legend_lent_paint_i16(
     if let Answer::Refused(_) = first {
         return answer::to_c(first);
     }
-    answer::to_c(apply_scalar::apply_to_data_scalar_i16(
+    answer::to_c(legend_scalar::apply_to_data_scalar_i16(
         head::head_given(head, banded),
         cmap,
         keys,

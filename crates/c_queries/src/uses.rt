@@ -8,16 +8,16 @@ use c_records::head;
 use c_records::head::LegendHead;
 use c_records::record;
 use c_records::record::LegendRecord;
-use c_settings::refusals;
+use c_types::refusals;
 use c_types::samples;
 ghost use mathlib.Core.Path.{_≡_};
 ghost use Rattle.cast.specs.Samples.{ofU8, ofI16};
 ghost use Rattle.cast.specs.Nodata.{nodataU8, nodataI16};
-ghost use Rattle.value_range.specs.ValueRanges.{totalValueRange};
-ghost use Rattle.pixel_color.specs.Values.{colorForValue};
-ghost use Rattle.apply.specs.ColorLists.{colorList};
-ghost use Rattle.c_settings.specs.Refusals.{legendRefusal, useRefusal};
-ghost use Rattle.legend_head.specs.Lent.{lentLegend};
+ghost use Rattle.legend_range.specs.ValueRanges.{totalValueRange};
+ghost use Rattle.legend_pixel.specs.Values.{colorForValue};
+ghost use Rattle.legend_apply.specs.ColorLists.{colorList};
+ghost use Rattle.c_types.specs.Refusals.{legendRefusal, useRefusal};
+ghost use Rattle.legend_view.specs.Lent.{lentLegend};
 ghost use Rattle.c_records.specs.Heads.{headGiven};
 ghost use Rattle.c_records.specs.Records.{legendOf};
 ghost use Rattle.c_types.specs.Samples.{nodataIf, nodataIfU8, nodataIfI16};
@@ -39,7 +39,7 @@ pub extern "C" fn legend_lent_color_for_f32(
 ) -> LegendColor
     ensures { λ r. ⌜ r ≡ pixelToC (useRefusal (head .settings) (head .kind) «nodata_given») (colorForValue (lentLegend (headGiven head banded) (now (cmap .entry)) (now (keys .entry)) (now (colors .entry)) (now (lookup .entry))) (nodataIf «nodata_given» nodata) value) ⌝ }
 {
-    let pixel = pixel_color::color_for_value(
+    let pixel = legend_pixel::color_for_value(
         head::head_given(head, banded),
         cmap,
         keys,
@@ -68,7 +68,7 @@ pub extern "C" fn legend_lent_color_for_u8(
 ) -> LegendColor
     ensures { λ r. ⌜ r ≡ pixelToC (useRefusal (head .settings) (head .kind) «nodata_given») (colorForValue (lentLegend (headGiven head banded) (now (cmap .entry)) (now (keys .entry)) (now (colors .entry)) (now (lookup .entry))) (nodataU8 (nodataIfU8 «nodata_given» nodata)) (ofU8 value)) ⌝ }
 {
-    let pixel = pixel_color::color_for_value_u8(
+    let pixel = legend_pixel::color_for_value_u8(
         head::head_given(head, banded),
         cmap,
         keys,
@@ -97,7 +97,7 @@ pub extern "C" fn legend_lent_color_for_i16(
 ) -> LegendColor
     ensures { λ r. ⌜ r ≡ pixelToC (useRefusal (head .settings) (head .kind) «nodata_given») (colorForValue (lentLegend (headGiven head banded) (now (cmap .entry)) (now (keys .entry)) (now (colors .entry)) (now (lookup .entry))) (nodataI16 (nodataIfI16 «nodata_given» nodata)) (ofI16 value)) ⌝ }
 {
-    let pixel = pixel_color::color_for_value_i16(
+    let pixel = legend_pixel::color_for_value_i16(
         head::head_given(head, banded),
         cmap,
         keys,
@@ -118,7 +118,7 @@ pub extern "C" fn legend_lent_color_for_i16(
 pub extern "C" fn legend_record_total_value_range(legend: LegendRecord) -> LegendValueRange
     ensures { λ r. ⌜ r ≡ rangeToC (legendRefusal (legend .settings) (legend .kind)) (totalValueRange (legendOf legend)) ⌝ }
 {
-    let range = value_range::total_value_range(record::legend_of(legend));
+    let range = legend_range::total_value_range(record::legend_of(legend));
     uses::range_to_c(
         refusals::legend_refusal(legend.settings, legend.kind),
         range,
@@ -129,6 +129,6 @@ pub extern "C" fn legend_record_total_value_range(legend: LegendRecord) -> Legen
 pub extern "C" fn legend_record_color_list(legend: LegendRecord) -> LegendColorList
     ensures { λ r. ⌜ r ≡ listToC (legendRefusal (legend .settings) (legend .kind)) (colorList (legendOf legend)) ⌝ }
 {
-    let list = apply::color_list(record::legend_of(legend));
+    let list = legend_apply::color_list(record::legend_of(legend));
     uses::list_to_c(refusals::legend_refusal(legend.settings, legend.kind), list)
 }

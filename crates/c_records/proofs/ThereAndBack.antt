@@ -10,9 +10,9 @@ use Rattle.legend.specs.declared.LegendKind.{LegendKind}
 use Rattle.legend.specs.declared.LegendKind.the-variants.{Linear, Banded, CategoricNumeric}
 use Rattle.legend.specs.declared.Legend.{Legend}
 use Rattle.refusal.specs.declared.Answer.the-variants.{Done}
-use Rattle.c_settings.specs.Settings.{colorIf, flagOf, givenFlag, settingsOf, flatSettings}
+use Rattle.c_types.specs.Settings.{colorIf, flagOf, givenFlag, settingsOf, flatSettings}
 use Rattle.c_records.specs.Records.{kindOf, kindNumber, legendOf, flat}
-use Rattle.c_settings.specs.Refusals.{settingsRefusal, legendRefusal}
+use Rattle.c_types.specs.Refusals.{settingsRefusal, legendRefusal}
 
 color-back : (o : OptionalColor) → colorIf (givenFlag o) (orElse o 0) ≡ o
 color-back (Given c) = refl

@@ -1,7 +1,7 @@
 -- A legend as C lends it: what is neither an array nor the bands, and the bands. Definitions only.
 use Rattle.banded.specs.declared.Banded.{Banded}
-use Rattle.legend_head.specs.declared.Head.{Head}
-use Rattle.c_settings.specs.Settings.{settingsOf}
+use Rattle.legend_view.specs.declared.Head.{Head}
+use Rattle.c_types.specs.Settings.{settingsOf}
 use Rattle.c_records.specs.declared.head.LegendHead.{LegendHead}
 use Rattle.c_records.specs.Records.{kindOf}
 

@@ -12,7 +12,7 @@ use Rattle.legend.specs.Record.{emptyLegend}
 use Rattle.c_records.specs.declared.record.LegendRecord.{LegendRecord}
 use Rattle.c_records.specs.declared.record.LegendMade.{LegendMade}
 use Rattle.c_types.specs.Answers.{answerOf}
-use Rattle.c_settings.specs.Settings.{settingsOf, flatSettings}
+use Rattle.c_types.specs.Settings.{settingsOf, flatSettings}
 
 -- 0 linear, 1 banded, 2 categoric; the numbers from 3 on are refused before
 abbrev pub kindOf : ℕ → LegendKind

@@ -1,9 +1,9 @@
 // A legend as C lends it: its arrays beside the rest of it.
 use crate::record;
 use banded::Banded;
-use c_settings::settings;
-use c_settings::settings::LegendSettings;
-use legend_head::Head;
+use c_types::settings;
+use c_types::settings::LegendSettings;
+use legend_view::Head;
 ghost use mathlib.Core.Path.{_≡_};
 ghost use Rattle.c_records.specs.Heads.{headGiven};
 

@@ -1,9 +1,9 @@
 // A legend as C holds it.
 use banded::Banded;
-use c_settings::settings;
-use c_settings::settings::LegendSettings;
 use c_types::answer;
 use c_types::answer::LegendAnswer;
+use c_types::settings;
+use c_types::settings::LegendSettings;
 use catgegoric::CategoricNumeric;
 use legend::Legend;
 use legend::LegendKind;

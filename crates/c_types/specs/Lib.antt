@@ -1,2 +1,4 @@
 pub mod Answers
 pub mod Samples
+pub mod Refusals
+pub mod Settings

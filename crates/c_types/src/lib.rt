@@ -1,4 +1,6 @@
-// Answers and nodata values as C has them (include/legend.h), as `repr(C)` structs and numbers, and the turns between them and the library's
-// own types.
+// Answers, settings and nodata values as C has them (include/legend.h), as `repr(C)` structs and numbers, and what is refused of flags and
+// kinds before any rule is asked.
 pub mod answer;
+pub mod refusals;
 pub mod samples;
+pub mod settings;

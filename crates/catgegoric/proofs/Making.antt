@@ -22,15 +22,15 @@ use Rattle.colormap.specs.Positions.{position, rampColors}
 use Rattle.lookup.specs.Entries.{plainEntry, entryColor}
 use Rattle.catgegoric.specs.declared.CategoricNumeric.{CategoricNumeric}
 use Rattle.catgegoric.specs.declared.MadeCategoric.{MadeCategoric}
-use Rattle.sorted_keys.specs.Categories.{Category, categories, keysOf, colorsOf}
-use Rattle.key_lists.specs.Whole.{whole}
-use Rattle.lookup_table.specs.Table.{tableSize, table}
-use Rattle.key_lists.specs.Range.{rangeCount, tooWide, countIs}
-use Rattle.key_lists.specs.Keys.{keysRefusal}
-use Rattle.sorted_keys.specs.Steps.{Holds}
+use Rattle.categoric_build.specs.Categories.{Category, categories, keysOf, colorsOf}
+use Rattle.categoric_lists.specs.Whole.{whole}
+use Rattle.categoric_build.specs.Table.{tableSize, table}
+use Rattle.categoric_lists.specs.Range.{rangeCount, tooWide, countIs}
+use Rattle.categoric_lists.specs.Keys.{keysRefusal}
+use Rattle.categoric_build.specs.Steps.{Holds}
 use Rattle.catgegoric.specs.Made.{emptyCategoric, recordOf, madeUnless, manyRefusal, valuesRefusal, wideRefusal, rangeRefusal}
-use Rattle.key_lists.proofs.Numbers.{up-to}
-use Rattle.sorted_keys.proofs.Inserting.{counted}
+use Rattle.categoric_lists.proofs.Numbers.{up-to}
+use Rattle.categoric_build.proofs.Inserting.{counted}
 
 -- ---- the record
 -- the arrays that hold some categories, with the table of what is counted in them

@@ -17,11 +17,11 @@ use Rattle.colormapper.specs.declared.UnmappableColors.{UnmappableColors}
 use Rattle.colormapper.specs.Settings.{unmappableColors}
 use Rattle.catgegoric.specs.declared.CategoricNumeric.{CategoricNumeric}
 use Rattle.catgegoric.specs.declared.MadeCategoric.{MadeCategoric}
-use Rattle.sorted_keys.specs.Categories.{Category, categories, keysOf, colorsOf}
-use Rattle.key_lists.specs.Whole.{whole}
-use Rattle.lookup_table.specs.Table.{tableSize, table}
-use Rattle.key_lists.specs.Keys.{keysRefusal}
-use Rattle.key_lists.specs.Range.{rangeCount, tooWide, countIs, rangeKeys}
+use Rattle.categoric_build.specs.Categories.{Category, categories, keysOf, colorsOf}
+use Rattle.categoric_lists.specs.Whole.{whole}
+use Rattle.categoric_build.specs.Table.{tableSize, table}
+use Rattle.categoric_lists.specs.Keys.{keysRefusal}
+use Rattle.categoric_lists.specs.Range.{rangeCount, tooWide, countIs, rangeKeys}
 
 abbrev pub emptyCategoric : CategoricNumeric
 emptyCategoric = record { keys = replicate 256 (pos 0); colors = replicate 256 0; count = 0; lookup = replicate 513 0; «lookup_count» = 0 }

@@ -1,4 +1,6 @@
 // Categoric legends: keys with colours, and a table of colours by key where the keys are small (docs/RULES.md, "Categoric").
+use categoric_build::sorted;
+use categoric_build::table;
 use colormapper::MappingConfig;
 use colormapper::UnmappableColors;
 use refusal::Answer;
@@ -8,9 +10,9 @@ ghost use Prim.Native.Nat.{_≤_};
 ghost use lib.ListN.{length, take};
 ghost use Rattle.refusal.specs.declared.Answer.the-variants.{Done};
 ghost use Rattle.lists.specs.Padded.{padded};
-ghost use Rattle.key_lists.specs.Keys.{keysRefusal};
-ghost use Rattle.sorted_keys.specs.Categories.{categories};
-ghost use Rattle.lookup_table.specs.Table.{tableSize, table};
+ghost use Rattle.categoric_lists.specs.Keys.{keysRefusal};
+ghost use Rattle.categoric_build.specs.Categories.{categories};
+ghost use Rattle.categoric_build.specs.Table.{tableSize, table};
 ghost use Rattle.catgegoric.specs.Made.{emptyCategoric, recordOf, madeUnless, manyRefusal, valuesRefusal, forValues, forValuesFromRamp, wideRefusal, rangeRefusal, forValueRange, forValueRangeFromRamp, categoricRefusal, categoricColors};
 
 // The first `count` keys, ascending, with their colours, and the table's first `lookup_count` words. Other places are 0.
@@ -55,7 +57,7 @@ impl CategoricNumeric {
         if let Answer::Refused(_) = answer {
             return refused(answer);
         }
-        let keys = key_lists::list_keys(values);
+        let keys = categoric_lists::list_keys(values);
         let words = colormap::list_colors(colors);
         create(&keys, &words, count)
     }
@@ -69,7 +71,7 @@ impl CategoricNumeric {
         if let Answer::Refused(_) = answer {
             return refused(answer);
         }
-        let keys = key_lists::list_keys(values);
+        let keys = categoric_lists::list_keys(values);
         let words = colormap::ramp_colors(cmap, count);
         create(&keys, &words, count)
     }
@@ -82,8 +84,8 @@ impl CategoricNumeric {
         if let Answer::Refused(_) = answer {
             return refused(answer);
         }
-        let count = key_lists::key_count(start, end);
-        let keys = key_lists::range_keys(start, count);
+        let count = categoric_lists::key_count(start, end);
+        let keys = categoric_lists::range_keys(start, count);
         let words = colormap::list_colors(colors);
         create(&keys, &words, count)
     }
@@ -96,8 +98,8 @@ impl CategoricNumeric {
         if let Answer::Refused(_) = answer {
             return refused(answer);
         }
-        let count = key_lists::key_count(start, end);
-        let keys = key_lists::range_keys(start, count);
+        let count = categoric_lists::key_count(start, end);
+        let keys = categoric_lists::range_keys(start, count);
         let words = colormap::ramp_colors(cmap, count);
         create(&keys, &words, count)
     }
@@ -135,7 +137,7 @@ fn range_refusal(start: i64, end: i64, colors: usize) -> Answer
     if let Answer::Refused(_) = answer {
         return answer;
     }
-    if key_lists::count_is(key_lists::range_count(start, end), colors) {
+    if categoric_lists::count_is(categoric_lists::range_count(start, end), colors) {
         return answer;
     }
     Answer::Refused(Refusal::ColorCountDiffers)
@@ -144,10 +146,10 @@ fn range_refusal(start: i64, end: i64, colors: usize) -> Answer
 fn wide_refusal(start: i64, end: i64) -> Answer
     ensures { λ r. ⌜ r ≡ wideRefusal start end Done ⌝ }
 {
-    if key_lists::too_wide(start, end) {
+    if categoric_lists::too_wide(start, end) {
         return Answer::Refused(Refusal::RangeTooWide);
     }
-    if key_lists::range_count(start, end) > 256 {
+    if categoric_lists::range_count(start, end) > 256 {
         return Answer::Refused(Refusal::TooManyCategories);
     }
     Answer::Done
@@ -169,7 +171,7 @@ fn create(keys: &[i64; 256], colors: &[u32; 256], count: usize) -> MadeCategoric
     requires { ⌜ (count ≤ 256) × (length (now keys) ≡ 256) × (length (now colors) ≡ 256) ⌝ }
     ensures { λ r. ⌜ r ≡ madeUnless (keysRefusal (take count (now (keys .entry)))) (take count (now (keys .entry))) (take count (now (colors .entry))) ⌝ }
 {
-    let answer = key_lists::keys_refusal(keys, count);
+    let answer = categoric_lists::keys_refusal(keys, count);
     if let Answer::Refused(_) = answer {
         return refused(answer);
     }
@@ -189,7 +191,7 @@ fn new(given: &[i64; 256], words: &[u32; 256], n: usize) -> CategoricNumeric
     let mut count: usize = 0;
     let mut i: usize = 0;
     while i < n {
-        count = sorted_keys::insert(&mut keys, &mut colors, count, given[i], words[i]);
+        count = sorted::insert(&mut keys, &mut colors, count, given[i], words[i]);
         i += 1;
     }
     with_lookup(keys, colors, count)
@@ -201,7 +203,7 @@ fn with_lookup(keys: [i64; 256], colors: [u32; 256], count: usize) -> CategoricN
     ensures { λ r. ⌜ r ≡ record { keys = keys; colors = colors; count = count; lookup = padded 0 513 (table (take count keys) (take count colors)); «lookup_count» = tableSize (take count keys) } ⌝ }
 {
     let lookup_count = lookup_size(&keys, count);
-    let lookup = lookup_table::create_fast_lookup(&keys, &colors, count, lookup_count);
+    let lookup = table::create_fast_lookup(&keys, &colors, count, lookup_count);
     CategoricNumeric {
         keys,
         colors,
@@ -219,10 +221,10 @@ fn lookup_size(keys: &[i64; 256], count: usize) -> usize
     if count == 0 {
         return 0;
     }
-    if lookup_table::smallest(keys, count) < 0 {
+    if table::smallest(keys, count) < 0 {
         return 0;
     }
-    let most = lookup_table::largest(keys, count);
+    let most = table::largest(keys, count);
     if most > CategoricNumeric::MAX_LOOKUP_SIZE {
         return 0;
     }

@@ -5,7 +5,7 @@ use lib.Ieee.{Float}
 use lib.ListN.{length, length-map}
 use Rattle.cast.specs.declared.Nodata.{Nodata}
 use Rattle.painting.proofs.Masking.{length-masked}
-use Rattle.band_lanes.proofs.LaneLaw.{lane-length}
+use Rattle.banded_lanes.proofs.LaneLaw.{lane-length}
 use Rattle.banded.specs.Record.{counted}
 use Rattle.legend.specs.declared.LegendKind.{LegendKind}
 use Rattle.legend.specs.declared.LegendKind.the-variants as kind

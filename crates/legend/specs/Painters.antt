@@ -14,14 +14,14 @@ use Rattle.painting.specs.Masked.{painterOf}
 use Rattle.linear.specs.declared.Linear.{Linear}
 use Rattle.linear.specs.Made.{linearColors}
 use Rattle.linear_rule.specs.Rule as linear
-use Rattle.legend_band.specs.declared.LegendBand.{LegendBand}
-use Rattle.bands.specs.PlainRule as bands
-use Rattle.band_lanes.specs.LaneRule as lanes
+use Rattle.banded_columns.specs.declared.LegendBand.{LegendBand}
+use Rattle.banded_rule.specs.PlainRule as bands
+use Rattle.banded_lanes.specs.LaneRule as lanes
 use Rattle.banded.specs.declared.Banded.{Banded}
 use Rattle.banded.specs.Record.{counted, bandedRefusal}
 use Rattle.banded.specs.Unmappable.{bandedUnmappable}
-use Rattle.table_words.specs.Rule as words
-use Rattle.categories.specs.Rule as categories
+use Rattle.categoric_table.specs.Rule as words
+use Rattle.categoric_keys.specs.Rule as categories
 use Rattle.catgegoric.specs.declared.CategoricNumeric.{CategoricNumeric}
 use Rattle.catgegoric.specs.Made.{categoricRefusal}
 use Rattle.legend.specs.declared.LegendKind.{LegendKind}

@@ -1,7 +1,7 @@
 // The builders of legends: a kind's builder and the settings (docs/RULES.md).
-use band_lists::ValueRanges;
 use banded::Banded;
 use banded::MadeBanded;
+use banded_lists::ValueRanges;
 use catgegoric::CategoricNumeric;
 use catgegoric::MadeCategoric;
 use colormap::ProcessedColorMap;

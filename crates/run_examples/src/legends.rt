@@ -1,7 +1,7 @@
 // The legends of the examples, and what a sample is painted by one of them.
 use crate::say;
-use band_lists::ValueRange;
-use band_lists::ValueRanges;
+use banded_lists::ValueRange;
+use banded_lists::ValueRanges;
 use cast::Nodata;
 use color::Color;
 use colormap::ProcessedColorMap;
@@ -91,7 +91,7 @@ pub fn painted(made: MadeLegend, value: f32) {
     let legend = made.legend;
     let samples = [value; 1];
     let mut words = [0u32; 1];
-    let done = apply::apply_to_data_scalar(legend, &samples, Nodata::Absent, &mut words);
+    let done = legend_apply::apply_to_data_scalar(legend, &samples, Nodata::Absent, &mut words);
     told(done, words[0]);
 }
 
@@ -106,7 +106,7 @@ pub fn painted_in_lanes(made: MadeLegend, value: f32, second: f32) {
     let samples = [value, second, value, value];
     let mut words = [0u32; 4];
     let mut scratch = [0u32; 16];
-    let done = apply::apply_to_data_kernel(
+    let done = legend_apply::apply_to_data_kernel(
         legend,
         4,
         &samples,

@@ -1,6 +1,6 @@
-//! Writes the reference's answers to `crates/replay/data/answers.bin`, and some of them with a word changed to
-//! `crates/replay_damaged/data/answers.bin`, the same files at every run: `cargo run --release -p store`.
-//! `crates/replay/README.md` says what a row holds.
+//! Writes the reference's answers to `crates/run_replay/data/answers.bin`, and some of them with a word changed to
+//! `crates/run_replay/data/damaged.bin`, the same files at every run: `cargo run --release -p store`.
+//! `crates/run_replay/README.md` says what a row holds.
 
 mod damage;
 mod leaves;
@@ -38,10 +38,9 @@ fn main() {
 
 /// The files, with what they hold.
 fn files() -> [(PathBuf, Vec<u8>); 2] {
-    let file =
-        |program| Path::new(env!("CARGO_MANIFEST_DIR")).join("../../crates").join(program).join("data/answers.bin");
+    let file = |name| Path::new(env!("CARGO_MANIFEST_DIR")).join("../../crates/run_replay/data").join(name);
     let rows = rows();
-    [(file("replay"), bytes(&rows)), (file("replay_damaged"), bytes(&damage::rows(&rows)))]
+    [(file("answers.bin"), bytes(&rows)), (file("damaged.bin"), bytes(&damage::rows(&rows)))]
 }
 
 /// A file: how many rows there are, and the rows.

@@ -31,15 +31,15 @@ use denote.Triple.Statement.{Contract, Triple}
 use denote.Triple.Table.{entered, cited}
 use denote.Triple.Walked.{says, Stays, stay-none, stay-none-slice, walkOf, goes-none, goes-none-slice, Walks, ends-at, walked, walk-meets}
 use denote.Exit.{yes}
-use Rattle.legend_band.specs.declared.LegendBand.{LegendBand}
+use Rattle.banded_columns.specs.declared.LegendBand.{LegendBand}
 use Rattle.banded.specs.Given.{withBandsGiven}
 use Rattle.banded.proofs.Rows.{Band}
 use Rattle.banded.proofs.Calls.{calls-fact}
 use Rattle.legend_builders.specs.Building.{madeBanded}
-use Rattle.c_settings.specs.declared.settings.LegendSettings.{LegendSettings}
+use Rattle.c_types.specs.declared.settings.LegendSettings.{LegendSettings}
 use Rattle.c_records.specs.declared.record.LegendMade.{LegendMade}
-use Rattle.c_settings.specs.Settings.{settingsOf}
-use Rattle.c_settings.specs.Refusals.{settingsRefusal}
+use Rattle.c_types.specs.Settings.{settingsOf}
+use Rattle.c_types.specs.Refusals.{settingsRefusal}
 use Rattle.c_records.specs.Records.{madeToC}
 use Rattle.banded.proofs.Banded.new.Symbol.{name as #banded·new}
 use Rattle.c_builders.proofs.bands_made.Symbol.{name as #bands-made}
@@ -47,8 +47,8 @@ use Rattle.c_builders.proofs.legend_create_banded_as_given.Key.{name as
 use denote.Struct.Laws as LL
 use Rattle.banded.proofs.MadeBanded as G
 use Rattle.banded.proofs.MadeBanded.Laws as G′
-use Rattle.c_settings.proofs.settings.LegendSettings as S
-use Rattle.c_settings.proofs.settings.LegendSettings.Laws as S′
+use Rattle.c_types.proofs.settings.LegendSettings as S
+use Rattle.c_types.proofs.settings.LegendSettings.Laws as S′
 use Rattle.c_records.proofs.record.LegendMade as N
 use Rattle.c_records.proofs.record.LegendMade.Laws as N′
 use Rattle.banded.proofs.Banded.new as new

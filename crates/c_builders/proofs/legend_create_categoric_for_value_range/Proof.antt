@@ -4,7 +4,7 @@ use Rattle.legend_builders.specs.Building.{madeCategoric}
 use Rattle.c_records.specs.Records.{madeToC}
 use Rattle.c_types.proofs.Known.{with-both}
 use Rattle.catgegoric.specs.Made.{forValueRange}
-use Rattle.key_lists.proofs.Numbers.{back₂}
+use Rattle.categoric_lists.proofs.Numbers.{back₂}
 use borrow.Author.Needs.{needs}
 use Rattle.c_builders.proofs.legend_create_categoric_for_value_range.Statement.{
   statement,

@@ -12,9 +12,9 @@ use lib.Seq.{length-take-le}
 use lib.Signed.{nonNeg, ltZ}
 use mir.Syntax.{w64}
 use mir.Val.{toZ, ofZ, Fits}
-use Rattle.lookup_table.specs.Table.{tabled, smallest, largest}
-use Rattle.lookup_table.proofs.Tables.{not-tabled, is-tabled, empty-none, negative-none, large-none, has-table, largest-to-512, largest-from-0}
-use Rattle.key_lists.proofs.Numbers.{back, cast-is, cast-may}
+use Rattle.categoric_build.specs.Table.{tabled, smallest, largest}
+use Rattle.categoric_build.proofs.Tables.{not-tabled, is-tabled, empty-none, negative-none, large-none, has-table, largest-to-512, largest-from-0}
+use Rattle.categoric_lists.proofs.Numbers.{back, cast-is, cast-may}
 use Rattle.catgegoric.proofs.lookup_size.Statement.{statement}
 use Rattle.catgegoric.proofs.lookup_size.Tie as tie
 

@@ -9,12 +9,12 @@ use lib.Seq.{length-take-le}
 use mir.Syntax.{w64}
 use mir.Val.{toZ, ofZ}
 use Rattle.catgegoric.specs.Made.{recordOf}
-use Rattle.sorted_keys.specs.Categories.{firstOf}
-use Rattle.sorted_keys.specs.Steps.{Holds}
+use Rattle.categoric_build.specs.Categories.{firstOf}
+use Rattle.categoric_build.specs.Steps.{Holds}
 use Rattle.catgegoric.proofs.Making.{recorded}
-use Rattle.sorted_keys.proofs.Inserting.{holds-none, holds-next, length-firstOf, keys-long, colors-long}
-use Rattle.sorted_keys.proofs.Putting.{holds-put}
-use Rattle.key_lists.proofs.Numbers.{back}
+use Rattle.categoric_build.proofs.Inserting.{holds-none, holds-next, length-firstOf, keys-long, colors-long}
+use Rattle.categoric_build.proofs.Putting.{holds-put}
+use Rattle.categoric_lists.proofs.Numbers.{back}
 use Rattle.catgegoric.proofs.new.Statement.{statement}
 use Rattle.catgegoric.proofs.new.Tie as tie
 

@@ -6,9 +6,9 @@ use Rattle.refusal.specs.declared.Answer.the-variants.{Done, Refused}
 use Rattle.refusal.specs.declared.Refusal.the-variants.{ColorCountDiffers}
 use Rattle.refusal.specs.Outcome.{refuseIf}
 use Rattle.catgegoric.specs.Made.{wideRefusal, rangeRefusal}
-use Rattle.key_lists.specs.Range.{rangeCount, tooWide, countIs}
+use Rattle.categoric_lists.specs.Range.{rangeCount, tooWide, countIs}
 use Rattle.catgegoric.proofs.Making.{wide-checks, stopped, cleared, wide-narrow}
-use Rattle.key_lists.proofs.Numbers.{back, back₂}
+use Rattle.categoric_lists.proofs.Numbers.{back, back₂}
 use Rattle.catgegoric.proofs.range_refusal.Statement.{statement}
 use Rattle.catgegoric.proofs.range_refusal.Tie as tie
 

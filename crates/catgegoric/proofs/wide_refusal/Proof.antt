@@ -6,8 +6,8 @@ use lib.Signed.{ltZ}
 use mir.Syntax.{w64}
 use mir.Val.{toZ, ofZ}
 use Rattle.catgegoric.specs.Made.{wideRefusal}
-use Rattle.key_lists.specs.Range.{rangeCount, tooWide}
-use Rattle.key_lists.proofs.Numbers.{back, back₂}
+use Rattle.categoric_lists.specs.Range.{rangeCount, tooWide}
+use Rattle.categoric_lists.proofs.Numbers.{back, back₂}
 use Rattle.catgegoric.proofs.wide_refusal.Statement.{statement}
 use Rattle.catgegoric.proofs.wide_refusal.Tie as tie
 

@@ -37,13 +37,13 @@ use denote.Triple.Walked.{says, Stays, stay-none-slice, walkOf, goes-none-slice,
 use denote.Exit.{yes}
 use Rattle.banded.specs.Record.{bandedOf, beside}
 use Rattle.banded.specs.Given.{withBand, folded, givenRefusal, withBandsGiven}
-use Rattle.legend_band.specs.declared.LegendBand.{LegendBand}
+use Rattle.banded_columns.specs.declared.LegendBand.{LegendBand}
 use Rattle.banded.specs.declared.MadeBanded.{MadeBanded}
 use Rattle.banded.proofs.Rows.{Band, Held, held-makes, held-typed}
 use Rattle.banded.proofs.Calls.{calls-fact, and-fact}
 use Rattle.banded.proofs.GivenBands.{is-given}
 use Rattle.banded.proofs.Banded.default.Symbol.{name as #banded·default}
-use Rattle.band_columns.proofs.at_most_64.Symbol.{name as #at-most-64}
+use Rattle.banded_columns.proofs.at_most_64.Symbol.{name as #at-most-64}
 use Rattle.banded.proofs.with_bands.Symbol.{name as #banded·with-bands}
 use Rattle.banded.proofs.given.Symbol.{name as #banded·given}
 use Rattle.banded.proofs.Banded.new.Key.{name as #banded·new}
@@ -53,9 +53,9 @@ use Rattle.banded.proofs.MadeBanded.Laws as N′
 use Rattle.banded.proofs.Banded.default as default
 use Rattle.banded.proofs.Banded.default.Symbol as default-def
 use Rattle.banded.proofs.Banded.default.Met as default-thm
-use Rattle.band_columns.proofs.at_most_64 as at-most
-use Rattle.band_columns.proofs.at_most_64.Symbol as at-most-def
-use Rattle.band_columns.proofs.at_most_64.Met as at-most-thm
+use Rattle.banded_columns.proofs.at_most_64 as at-most
+use Rattle.banded_columns.proofs.at_most_64.Symbol as at-most-def
+use Rattle.banded_columns.proofs.at_most_64.Met as at-most-thm
 use Rattle.banded.proofs.with_bands as with-bands
 use Rattle.banded.proofs.with_bands.Symbol as with-bands-def
 use Rattle.banded.proofs.with_bands.Met as with-bands-thm
@@ -165,7 +165,7 @@ new-spec 𝓤 H 𝓜 𝓖 𝓡 =
     (tables 𝓤 H 𝓜 𝓡 code.env .C) (tables 𝓤 H 𝓜 𝓡 code.env .Λ) #banded·new code.function (code.unfolded 𝓤 H 𝓜 𝓡)
     (new-meets 𝓤 H (𝓖 .A) (givenOf 𝓤 H 𝓜 𝓖) (𝓜 .mem) (𝓡 .run) (tablesOf 𝓤 H 𝓜 (tables 𝓤 H 𝓜 𝓡 code.env)) (record {
       default-known = cited 𝓤 H (Default 𝓤 H (𝓖 .A) (𝓜 .mem) (𝓡 .run)) 𝓜 𝓡 code.env #banded·default default-def.routine code.calls-banded·Banded·default (default-thm.met 𝓤 H 𝓜 𝓖 𝓡);
-      at-most-known = cited 𝓤 H (AtMost 𝓤 H (𝓖 .A) (𝓜 .mem) (𝓡 .run)) 𝓜 𝓡 code.env #at-most-64 at-most-def.routine code.calls-band-columns·at-most-64 (at-most-thm.met 𝓤 H 𝓜 𝓖 𝓡);
+      at-most-known = cited 𝓤 H (AtMost 𝓤 H (𝓖 .A) (𝓜 .mem) (𝓡 .run)) 𝓜 𝓡 code.env #at-most-64 at-most-def.routine code.calls-banded-columns·at-most-64 (at-most-thm.met 𝓤 H 𝓜 𝓖 𝓡);
       with-bands-known = cited 𝓤 H (WithBands 𝓤 H (𝓖 .A) (𝓜 .mem) (𝓡 .run)) 𝓜 𝓡 code.env #banded·with-bands with-bands-def.routine code.calls-banded·with-bands (with-bands-thm.met 𝓤 H 𝓜 𝓖 𝓡);
       given-known = cited 𝓤 H (Giving 𝓤 H (𝓖 .A) (𝓜 .mem) (𝓡 .run)) 𝓜 𝓡 code.env #banded·given given-def.routine code.calls-banded·given (given-thm.met 𝓤 H 𝓜 𝓖 𝓡);
     }))

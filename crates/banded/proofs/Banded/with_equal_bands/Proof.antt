@@ -2,7 +2,7 @@
 use mathlib.Core.Path.{sym, refl, _∙_}
 use native.Mathlib.Omega.{arith}
 use borrow.Author.Needs.{needs}
-use Rattle.band_lists.proofs.Equal.{equal-few, equal-same}
+use Rattle.banded_lists.proofs.Equal.{equal-few, equal-same}
 use Rattle.banded.proofs.Equal.{equal-refused, equal-made}
 use Rattle.banded.proofs.Banded.with_equal_bands.Statement.{statement}
 use Rattle.banded.proofs.Banded.with_equal_bands.Tie as tie

@@ -3,7 +3,7 @@ use mathlib.Core.Path.{sym, _∙_}
 use native.Mathlib.Omega.{arith}
 use borrow.Author.Needs.{needs}
 use Rattle.colormap.specs.Positions.{rampColors}
-use Rattle.band_lists.proofs.Equal.{equal-few}
+use Rattle.banded_lists.proofs.Equal.{equal-few}
 use Rattle.banded.proofs.Equal.{ramp-count, equal-refused, equal-made}
 use Rattle.banded.proofs.Banded.with_equal_bands_from_ramp.Statement.{statement}
 use Rattle.banded.proofs.Banded.with_equal_bands_from_ramp.Tie as tie

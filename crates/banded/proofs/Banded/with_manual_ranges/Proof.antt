@@ -2,7 +2,7 @@
 use mathlib.Core.Path.{sym, refl, _∙_}
 use native.Mathlib.Omega.{arith}
 use borrow.Author.Needs.{needs}
-use Rattle.band_lists.proofs.Manual.{manual-few, manual-same}
+use Rattle.banded_lists.proofs.Manual.{manual-few, manual-same}
 use Rattle.banded.proofs.Manual.{manual-refused, manual-made}
 use Rattle.banded.proofs.Banded.with_manual_ranges.Statement.{statement}
 use Rattle.banded.proofs.Banded.with_manual_ranges.Tie as tie

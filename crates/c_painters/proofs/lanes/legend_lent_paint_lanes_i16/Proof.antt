@@ -4,8 +4,8 @@ use mir.Syntax.{w16}
 use mir.Facts.{toZ-ofZ}
 use Rattle.c_types.specs.Samples.{nodataIfI16}
 use Rattle.cast.specs.Nodata.{nodataI16}
-use Rattle.legend_head.specs.Lent.{lentLegend}
-use Rattle.c_settings.specs.Refusals.{useRefusal}
+use Rattle.legend_view.specs.Lent.{lentLegend}
+use Rattle.c_types.specs.Refusals.{useRefusal}
 use Rattle.c_painters.specs.Painting.{legendLent}
 use Rattle.c_painters.proofs.Calling.{lane-arguments, lanes-painted}
 use borrow.Author.Needs.{needs}

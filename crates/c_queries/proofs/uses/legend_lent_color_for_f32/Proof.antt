@@ -1,9 +1,9 @@
 -- `uses::legend_lent_color_for_f32` meets its contract. Assumes nothing.
 use mathlib.Core.Path.{_∙_}
-use Rattle.pixel_color.specs.Values.{colorForValue}
+use Rattle.legend_pixel.specs.Values.{colorForValue}
 use Rattle.c_answers.specs.Uses.{pixelToC}
 use Rattle.c_types.proofs.Known.{with-both}
-use Rattle.legend_head.specs.Lent.{lentLegend}
+use Rattle.legend_view.specs.Lent.{lentLegend}
 use borrow.Author.Needs.{needs}
 use Rattle.c_queries.proofs.uses.legend_lent_color_for_f32.Statement.{statement}
 use Rattle.c_queries.proofs.uses.legend_lent_color_for_f32.Tie as tie

@@ -1,5 +1,5 @@
 -- `uses::legend_lent_color_for_i16` meets its contract. Assumes nothing.
-use Rattle.pixel_color.specs.Values.{colorForValue}
+use Rattle.legend_pixel.specs.Values.{colorForValue}
 use Rattle.c_answers.specs.Uses.{pixelToC}
 use Rattle.c_types.proofs.Known.{with-both}
 use mathlib.Core.Path.{ap, _∙_}
@@ -8,7 +8,7 @@ use mir.Facts.{toZ-ofZ}
 use Rattle.cast.specs.Samples.{ofI16}
 use Rattle.cast.specs.Nodata.{nodataI16}
 use Rattle.c_types.specs.Samples.{nodataIfI16}
-use Rattle.legend_head.specs.Lent.{lentLegend}
+use Rattle.legend_view.specs.Lent.{lentLegend}
 use borrow.Author.Needs.{needs}
 use Rattle.c_queries.proofs.uses.legend_lent_color_for_i16.Statement.{statement}
 use Rattle.c_queries.proofs.uses.legend_lent_color_for_i16.Tie as tie

@@ -1,6 +1,6 @@
 -- `uses::legend_record_color_list` meets its contract. Assumes nothing.
 use mathlib.Core.Path.{ap, _∙_}
-use Rattle.apply.specs.ColorLists.{colorList}
+use Rattle.legend_apply.specs.ColorLists.{colorList}
 use Rattle.c_answers.specs.Uses.{listToC}
 use Rattle.c_types.proofs.Known.{with-both}
 use borrow.Author.Needs.{needs}

@@ -1,6 +1,6 @@
 -- `uses::legend_record_total_value_range` meets its contract. Assumes nothing.
 use mathlib.Core.Path.{ap, _∙_}
-use Rattle.value_range.specs.ValueRanges.{totalValueRange}
+use Rattle.legend_range.specs.ValueRanges.{totalValueRange}
 use Rattle.c_answers.specs.Uses.{rangeToC}
 use Rattle.c_types.proofs.Known.{with-both}
 use borrow.Author.Needs.{needs}

@@ -11,12 +11,12 @@ use mir.Val.{toZ, ofZ}
 use Rattle.refusal.specs.declared.Answer.the-variants.{Done}
 use Rattle.lists.specs.Padded.{padded}
 use Rattle.lists.proofs.Padding.{length-padded}
-use Rattle.key_lists.specs.Whole.{whole}
-use Rattle.key_lists.specs.Keys.{keysRefusal}
-use Rattle.key_lists.specs.Range.{rangeCount, tooWide, rangeKeys}
+use Rattle.categoric_lists.specs.Whole.{whole}
+use Rattle.categoric_lists.specs.Keys.{keysRefusal}
+use Rattle.categoric_lists.specs.Range.{rangeCount, tooWide, rangeKeys}
 use Rattle.catgegoric.specs.Made.{wideRefusal, rangeRefusal}
-use Rattle.key_lists.proofs.Numbers.{back, back₂}
-use Rattle.key_lists.proofs.Ranges.{key-fits, keys-are, length-range}
+use Rattle.categoric_lists.proofs.Numbers.{back, back₂}
+use Rattle.categoric_lists.proofs.Ranges.{key-fits, keys-are, length-range}
 use Rattle.catgegoric.proofs.Making.{range-checks, wide-narrow, wide-few, range-wide, range-match, stopped, built, refused, counted-list}
 use Rattle.catgegoric.proofs.CategoricNumeric.for_value_range.Statement.{statement}
 use Rattle.catgegoric.proofs.CategoricNumeric.for_value_range.Tie as tie

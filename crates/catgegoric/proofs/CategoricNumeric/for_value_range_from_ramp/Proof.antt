@@ -12,12 +12,12 @@ use Rattle.refusal.specs.declared.Answer.the-variants.{Done}
 use Rattle.lists.specs.Padded.{padded}
 use Rattle.lists.proofs.Padding.{length-padded}
 use Rattle.colormap.specs.Positions.{rampColors}
-use Rattle.key_lists.specs.Whole.{whole}
-use Rattle.key_lists.specs.Keys.{keysRefusal}
-use Rattle.key_lists.specs.Range.{rangeCount, tooWide, rangeKeys}
+use Rattle.categoric_lists.specs.Whole.{whole}
+use Rattle.categoric_lists.specs.Keys.{keysRefusal}
+use Rattle.categoric_lists.specs.Range.{rangeCount, tooWide, rangeKeys}
 use Rattle.catgegoric.specs.Made.{wideRefusal}
-use Rattle.key_lists.proofs.Numbers.{back, back₂}
-use Rattle.key_lists.proofs.Ranges.{key-fits, keys-are, length-range}
+use Rattle.categoric_lists.proofs.Numbers.{back, back₂}
+use Rattle.categoric_lists.proofs.Ranges.{key-fits, keys-are, length-range}
 use Rattle.catgegoric.proofs.Making.{wide-checks, wide-narrow, wide-few, stopped, built, refused, counted-list, length-ramp}
 use Rattle.catgegoric.proofs.CategoricNumeric.for_value_range_from_ramp.Statement.{statement}
 use Rattle.catgegoric.proofs.CategoricNumeric.for_value_range_from_ramp.Tie as tie

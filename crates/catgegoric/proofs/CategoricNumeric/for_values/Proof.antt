@@ -6,7 +6,7 @@ use lib.IntN.{pos}
 use lib.ListN.{length}
 use Rattle.lists.proofs.Padding.{length-padded}
 use Rattle.catgegoric.specs.Made.{valuesRefusal}
-use Rattle.key_lists.specs.Keys.{keysRefusal}
+use Rattle.categoric_lists.specs.Keys.{keysRefusal}
 use Rattle.catgegoric.proofs.Making.{values-checks, values-few, values-match, stopped, built, refused, counted-list}
 use Rattle.catgegoric.proofs.CategoricNumeric.for_values.Statement.{statement}
 use Rattle.catgegoric.proofs.CategoricNumeric.for_values.Tie as tie

@@ -7,7 +7,7 @@ use lib.ListN.{length}
 use Rattle.colormap.specs.Positions.{rampColors}
 use Rattle.lists.proofs.Padding.{length-padded}
 use Rattle.catgegoric.specs.Made.{manyRefusal}
-use Rattle.key_lists.specs.Keys.{keysRefusal}
+use Rattle.categoric_lists.specs.Keys.{keysRefusal}
 use Rattle.catgegoric.proofs.Making.{many-checks, few, stopped, built, refused, counted-list, length-ramp}
 use Rattle.catgegoric.proofs.CategoricNumeric.for_values_from_ramp.Statement.{statement}
 use Rattle.catgegoric.proofs.CategoricNumeric.for_values_from_ramp.Tie as tie

@@ -1,2 +1,0 @@
--- What the contracts cite: rows of single calls.
-pub mod Rows

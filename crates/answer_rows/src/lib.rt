@@ -1,4 +1,0 @@
-// A row of stored answers, for the program `replay`: where its parts stand, the values that its words stand for, and two rows compared.
-pub mod part;
-pub mod place;
-pub mod value;

@@ -1,3 +1,0 @@
--- What the contracts cite: the words of replies and of records.
-pub mod Replies
-pub mod Records

@@ -1,3 +1,0 @@
-pub mod LaneRule
-pub mod Parts
-pub mod Sound

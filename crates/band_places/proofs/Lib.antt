@@ -1,3 +1,0 @@
-pub mod Ascent
-pub mod Counting
-pub mod Placing

@@ -1,2 +1,0 @@
-pub mod OneBand
-pub mod ScanAtPlaces

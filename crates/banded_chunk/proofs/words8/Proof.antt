@@ -1,0 +1,23 @@
+-- `words8` meets its contract. Assumes nothing.
+use borrow.Author.Needs.{needs}
+use native.Mathlib.Omega.{arith}
+use Rattle.banded_chunk.proofs.MaskedWords.{lane-words}
+use Rattle.banded_chunk.proofs.words8.Statement.{statement}
+use Rattle.banded_chunk.proofs.words8.Tie as tie
+
+scanned-requires : tie.Need-scanned-requires
+scanned-requires c κs = search needs
+
+settled-requires : tie.Need-settled-requires
+settled-requires c κs = search needs
+
+masked-simd-requires : tie.Need-masked-simd-requires
+masked-simd-requires c κs = search needs
+
+returns : tie.Need-returns
+returns c =
+    let a = c .before .before .before .args in
+    lane-words 8 _ (a .p) (a .v) (search needs) (omega arith) (c .masked-simd .ensures) (c .before .settled .ensures)
+
+pub words8-spec : {M : Type 1} → statement M
+words8-spec = tie.close (tie.spec scanned-requires settled-requires masked-simd-requires returns)

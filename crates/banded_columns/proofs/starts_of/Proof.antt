@@ -1,0 +1,61 @@
+-- `starts_of` meets its contract. Assumes nothing.
+use Prim.Native.Nat.{_-_}
+use mathlib.Core.Path.{refl}
+use native.Mathlib.Omega.{arith}
+use lib.Ieee.{nan}
+use lib.ListN.{getD}
+use borrow.Author.Needs.{needs}
+use Rattle.lists.proofs.Filling.{Filling, filling-start, filling-turn}
+use Rattle.banded_columns.proofs.Unpacking.{unpacked}
+use Rattle.banded_columns.proofs.Past.{noBand}
+use Rattle.banded_columns.proofs.starts_of.Statement.{statement}
+use Rattle.banded_columns.proofs.starts_of.Tie as tie
+
+abbrev Inv-loop : tie.InvT-loop
+Inv-loop bands starts₀ i₀ starts i = Filling nan (λ k. getD bands k noBand .start) 64 64 i starts
+
+abbrev μ-loop : tie.MeasureT-loop
+μ-loop bands starts₀ i₀ starts i = 64 - i
+
+loop-holds : tie.Need-loop-holds Inv-loop μ-loop
+loop-holds c = filling-start refl
+
+mul-band : tie.Need-mul-band Inv-loop μ-loop
+mul-band c = search needs
+
+array-copy-out-band : tie.Need-array-copy-out-band Inv-loop μ-loop
+array-copy-out-band c = search needs
+
+mul-starts : tie.Need-mul-starts Inv-loop μ-loop
+mul-starts c = search needs
+
+array-write-starts : tie.Need-array-write-starts Inv-loop μ-loop
+array-write-starts c = search needs
+
+add-i : tie.Need-add-i Inv-loop μ-loop
+add-i c = search needs
+
+loop-less : tie.Need-loop-less Inv-loop μ-loop
+loop-less c = search needs
+
+loop-again : tie.Need-loop-again Inv-loop μ-loop
+loop-again c = filling-turn (c .before .before .loop .inv) (omega arith) (search needs) refl
+
+returns : tie.Need-returns Inv-loop μ-loop
+returns c = unpacked (λ b. b .start) noBand (c .before .before .args .t1) (c .before .loop .inv) (omega arith) (search needs)
+
+pub starts-of-spec : {M : Type 1} → statement M
+starts-of-spec =
+    tie.close
+    (tie.spec
+    Inv-loop
+    μ-loop
+    loop-holds
+    mul-band
+    array-copy-out-band
+    mul-starts
+    array-write-starts
+    add-i
+    loop-less
+    loop-again
+    returns)

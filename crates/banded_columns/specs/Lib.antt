@@ -1,0 +1,2 @@
+pub mod OuterColors
+pub mod Band

@@ -1,0 +1,4 @@
+pub mod LaneRule
+pub mod Parts
+pub mod Sound
+pub mod Edges

@@ -1,0 +1,87 @@
+-- `paint_simd` meets its contract. Assumes nothing.
+use borrow.Author.Needs.{needs}
+use native.Mathlib.Omega.{arith}
+use Prim.Native.Nat.{ℕ, _-_}
+use borrow.Author.Tests.{ltb-true}
+use lib.Dec.{T, ltb}
+use lib.Ieee.{Float}
+use mathlib.Core.Path.{_≡_, sym, subst, _∙_}
+use mathlib.Core.Bool.{Bool, true, false, _&&_}
+use mathlib.Core.List.{List}
+use mathlib.Core.Logic.{⊎-elim}
+use Rattle.banded_lanes.proofs.LaneLaw.{lane-length}
+use Rattle.painting.proofs.Refusals.{lane-sizes}
+use Rattle.painting.proofs.Steps.{InChunks, chunks-start, chunk-turn, chunks-end}
+use Rattle.painting.proofs.Masking.{length-masked}
+use Rattle.banded_rule.specs.Packed.{packed}
+use Rattle.banded_search.specs.Apart.{apart}
+use Rattle.banded_chunk.specs.Rules.{plainSample, laneChunk}
+use Rattle.banded_chunk.specs.Search.{Searchable}
+use Rattle.banded_paint.proofs.paint_simd.Statement.{statement}
+use Rattle.banded_paint.proofs.paint_simd.Tie as tie
+
+-- what the two tests tell where both hold
+both-asked : {starts ends : List Float} {count : ℕ} {asked : Bool} → asked ≡ apart starts ends count → (asked && ltb 0 count) ≡ true → Searchable starts ends count
+both-asked {count = count} {asked = true} e h = record { some = ltb-true 0 count h; far = sym e }
+both-asked {asked = false} e h = absurd (subst T (sym h) tt)
+
+abbrev Inv-loop : tie.InvT-loop
+Inv-loop starts ends colors p l src out₀ searched n base₀ out base = InChunks l (laneChunk (packed starts ends colors (p .count)) p) (plainSample (packed starts ends colors (p .count)) p) src base out
+
+abbrev μ-loop : tie.MeasureT-loop
+μ-loop starts ends colors p l src out₀ searched n base₀ out base = n - base
+
+apart-requires : tie.Need-apart-requires Inv-loop μ-loop
+apart-requires c κs = search needs
+
+loop-holds : tie.Need-loop-holds Inv-loop μ-loop
+loop-holds c = chunks-start (search needs)
+
+sub-loop : tie.Need-sub-loop Inv-loop μ-loop
+sub-loop c = search needs
+
+chunk-searched-requires : tie.Need-chunk-searched-requires Inv-loop μ-loop
+chunk-searched-requires c κs =
+    let s = c .before .before .before .before .before .before .before .before in
+    (search needs, both-asked (c .before .before .before .before .before .apart .ensures) (c .before .if1 .taken), s .pre .1, omega arith, omega arith)
+
+chunk-requires : tie.Need-chunk-requires Inv-loop μ-loop
+chunk-requires c κs = (search needs, c .before .before .before .before .before .before .before .before .pre .1, omega arith, omega arith)
+
+add-base : tie.Need-add-base Inv-loop μ-loop
+add-base c = search needs
+
+loop-less : tie.Need-loop-less Inv-loop μ-loop
+loop-less c = omega (arith, lane-sizes (c .before .before .before .before .before .before .before .args .l) (c .before .before .before .before .before .before .before .pre .1) .0)
+
+loop-again : tie.Need-loop-again Inv-loop μ-loop
+loop-again c =
+    chunk-turn (c .before .before .loop .inv) (lane-sizes _ (c .before .before .before .before .before .before .before .pre .1) .0) (omega arith) (λ xs. length-masked _ _ xs _ (lane-length _ _ xs))
+    (⊎-elim (λ w. w .5 ∙ w .2 .ensures) (λ w. w .5 ∙ w .2 .ensures) (c .if1 .came))
+
+rest-requires : tie.Need-rest-requires Inv-loop μ-loop
+rest-requires c κs = (search needs, λ h. both-asked (c .before .before .before .before .apart .ensures) h .far, search needs, omega (arith, lane-sizes (c .before .before .before .before .before .before .before .args .l) (c .before .before .before .before .before .before .before .pre .1) .1), search needs)
+
+same-length : tie.Need-same-length Inv-loop μ-loop
+same-length c = search needs
+
+returns : tie.Need-returns Inv-loop μ-loop
+returns c = c .before .before .rest .ensures ∙ chunks-end (c .before .before .before .before .before .loop .inv) (omega arith)
+
+pub paint-simd-spec : {M : Type 1} → statement M
+paint-simd-spec =
+    tie.close
+    (tie.spec
+    Inv-loop
+    μ-loop
+    apart-requires
+    loop-holds
+    sub-loop
+    chunk-searched-requires
+    chunk-requires
+    add-base
+    loop-less
+    loop-again
+    rest-requires
+    same-length
+    returns)

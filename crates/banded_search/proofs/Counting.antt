@@ -1,0 +1,115 @@
+-- The counted place: one start more, how large it is, and what the starts are before and after it where bands are apart. Assumes nothing.
+use mathlib.Core.Path.{_≡_, refl, sym, subst}
+use mathlib.Core.Bool.{Bool, true, false, not, cond}
+use mathlib.Core.List.{List}
+use mathlib.Core.Logic.{inl, inr, ⊎-elim}
+use Prim.Native.Nat.{ℕ, zero, suc, _+_, _^_, _≤_, _<_}
+use native.Mathlib.Nat.{eq-or-lt-of-le}
+use native.Mathlib.Numerals.{add-one}
+use native.Mathlib.Omega.{arith}
+use lib.Dec.{T, T-not, not-T}
+use lib.Ieee.{Float, nan, lt, le}
+use lib.Ieee.Fits.{and-l, and-r}
+use lib.ListN.{getD}
+use mir.Val.{boolByte}
+use Rattle.lists.proofs.Numbers.{lt-or-le}
+use Rattle.floats.proofs.Order.{le-le, lt-le, lt-not-le}
+use Rattle.banded_search.specs.Apart.{apart}
+use Rattle.banded_search.specs.Place.{placeOf, heldAt}
+use Rattle.banded_search.proofs.Ascent.{later-clears}
+
+at-most-one : (t : Bool) → cond t 1 0 ≤ 1
+at-most-one true = omega arith
+at-most-one false = omega arith
+
+-- a flag as a number
+pub flag-is : (t : Bool) → boolByte t ≡ cond t 1 0
+flag-is true = refl
+flag-is false = refl
+
+-- a place in the arrays, moved on by a flag, still fits a word
+pub moved-fits : (place : ℕ) (t : Bool) → place < 64 → place + boolByte t < 2 ^ 32
+moved-fits place true h = omega arith
+moved-fits place false h = omega arith
+
+yes-is : (t : Bool) → T t → _≡_ {A = ℕ} (cond t 1 0) 1
+yes-is true h = refl
+yes-is false h = absurd h
+
+module _ (starts : List Float) (v : Float) where
+  abbrev start : ℕ → Float
+  start j = getD starts j nan
+
+  abbrev reached : ℕ → Bool
+  reached j = le (start j) v
+
+  pub place-few : (i : ℕ) → i ≤ 1 → placeOf starts i v ≡ 0
+  unfolding placeOf
+  place-few zero h = refl
+  place-few (suc zero) h = refl
+  place-few (suc (suc i)) h = absurd (omega arith)
+
+  pub place-more : (i : ℕ) → 0 < i → placeOf starts (i + 1) v ≡ placeOf starts i v + cond (reached i) 1 0
+  unfolding placeOf
+  place-more zero h = absurd (omega arith)
+  place-more (suc n) h = rw (add-one (suc n))
+
+  at-most : (n : ℕ) → placeOf starts (suc n) v ≤ n
+  unfolding placeOf
+  at-most zero = omega arith
+  at-most (suc n) = omega (arith, at-most n, at-most-one (reached (suc n)))
+
+  pub place-below : (count : ℕ) → 0 < count → placeOf starts count v < count
+  place-below zero h = absurd (omega arith)
+  place-below (suc n) h = omega (arith, at-most n)
+
+  pub place-in-arrays : (count : ℕ) → count ≤ 64 → placeOf starts count v < 64
+  place-in-arrays zero h = omega (arith, place-few 0 (omega arith))
+  place-in-arrays (suc n) h = omega (arith, at-most n)
+
+  -- all count where each is reached
+  all-count : (n : ℕ) → ((j : ℕ) → 0 < j → j ≤ n → T (reached j)) → placeOf starts (suc n) v ≡ n
+  unfolding placeOf
+  all-count zero h = refl
+  all-count (suc n) h = omega (arith, all-count n (λ j p q. h j p (omega arith)), yes-is (reached (suc n)) (h (suc n) (omega arith) (omega arith)))
+
+  -- the start at a place is reached, unless it is the first, and those after it are not
+  record Stands (count place : ℕ) : Type 0 where
+    pub here : 0 < place → T (reached place)
+    pub later : (j : ℕ) → place < j → j < count → T (not (reached j))
+
+  module _ (ends : List Float) where
+    one-start-more : (n : ℕ) → T (apart starts ends (suc (suc n))) → (t : Bool) → (T t → T (reached (suc n))) → (T (not t) → T (not (reached (suc n)))) →
+        Stands (suc n) (placeOf starts (suc n) v) → Stands (suc (suc n)) (placeOf starts (suc n) v + cond t 1 0)
+    one-start-more n a true f g s =
+        let e : placeOf starts (suc n) v ≡ n = all-count n (λ j p q. le-le (start j) (start (suc n)) v (later-clears starts ends (suc (suc n)) a j (suc n) (omega arith) (omega arith) .ascends) (f tt)) in
+        let d : suc n ≡ placeOf starts (suc n) v + 1 = omega arith in
+        record { here = λ p. subst (λ (k : ℕ). T (reached k)) d (f tt); later = λ j p q. absurd (omega arith) }
+    one-start-more n a false f g s =
+        let e : placeOf starts (suc n) v ≡ placeOf starts (suc n) v + 0 = omega arith in
+        record {
+          here = λ p. subst (λ (k : ℕ). T (reached k)) e (s .here (omega arith));
+          later = λ j p q. ⊎-elim
+              (λ (d : j ≡ suc n). subst (λ (k : ℕ). T (not (reached k))) (sym d) (g tt))
+              (λ (l : j < suc n). s .later j (omega arith) l)
+              (eq-or-lt-of-le (omega arith));
+        }
+
+    stands : (count : ℕ) → T (apart starts ends count) → Stands count (placeOf starts count v)
+    unfolding placeOf
+    stands zero a = record { here = λ p. absurd (omega arith); later = λ j p q. absurd (omega arith) }
+    stands (suc zero) a = record { here = λ p. absurd (omega arith); later = λ j p q. absurd (omega arith) }
+    stands (suc (suc n)) a = one-start-more n a (reached (suc n)) (λ h. h) (λ h. h) (stands (suc n) (unfold apart in and-l (apart starts ends (suc n)) _ a))
+
+    -- no band but the one at the place holds the sample
+    pub no-other : (count : ℕ) → apart starts ends count ≡ true → (j : ℕ) → j < count → (j ≡ placeOf starts count v → ⊥) → T (not (heldAt starts ends j v))
+    no-other count e j q d =
+        let a : T (apart starts ends count) = subst T (sym e) tt in
+        let p = placeOf starts count v in
+        not-T (heldAt starts ends j v)
+        (λ (h : T (heldAt starts ends j v)). elim (lt-or-le j p) [
+          | inl l ↦ lt-not-le v (start p)
+              (lt-le v (getD ends j nan) (start p) (and-r (reached j) (lt v (getD ends j nan)) h) (later-clears starts ends count a j p l (place-below count (omega arith)) .past))
+              (stands count a .here (omega arith))
+          | inr l ↦ T-not (reached j) (stands count a .later j (elim (eq-or-lt-of-le l) [ inl x ↦ absurd (d (sym x)) | inr x ↦ x ]) q) (and-l (reached j) (lt v (getD ends j nan)) h)
+        ])

@@ -1,0 +1,5 @@
+pub mod OneBand
+pub mod ScanAtPlaces
+pub mod Ascent
+pub mod Counting
+pub mod Placing

@@ -1,0 +1,60 @@
+-- `colors_for_numeric_values` meets its contract: the colour at the counted place over that of the edges is the plain rule. Assumes nothing.
+use borrow.Author.Needs.{needs}
+use mathlib.Core.Path.{sym, _∙_}
+use native.Mathlib.Omega.{arith}
+use lib.Ieee.{nan}
+use lib.ListN.{getD, length-replicate, getD-replicate}
+use Rattle.lists.proofs.LanesOf.{lane-at, lanes-agree, lanes-all}
+use Rattle.banded_rule.proofs.Forms.{plain-none}
+use Rattle.banded_search.proofs.OneBand.{plain-at-place}
+use Rattle.banded_search.proofs.colors_for_numeric_values.Statement.{statement}
+use Rattle.banded_search.proofs.colors_for_numeric_values.Tie as tie
+
+returns : tie.Need-returns
+returns c =
+    let a = c .before .args in
+    lanes-all 0 0 (length-replicate 16 (a .u .nodata))
+    (λ k q.
+    getD-replicate 16 k (a .u .nodata) 0 q
+    ∙ sym (plain-none (a .starts .now) (a .ends .now) (a .colors .now) (a .count) (a .u) (getD (a .value) k nan) (c .if1 .taken)))
+
+band-at-requires : tie.Need-band-at-requires
+band-at-requires c κs = search needs
+
+sub-band-at : tie.Need-sub-band-at
+sub-band-at c = search needs
+
+band-at-requires-2 : tie.Need-band-at-requires-2
+band-at-requires-2 c κs = search needs
+
+edge-colors-requires : tie.Need-edge-colors-requires
+edge-colors-requires c κs = search needs
+
+places-of-requires : tie.Need-places-of-requires
+places-of-requires c κs = search needs
+
+colors-at-requires : tie.Need-colors-at-requires
+colors-at-requires c κs = search needs
+
+returns-2 : tie.Need-returns-2
+returns-2 c =
+    let s = c .before .before .before .before .before .before in
+    let a = s .args in
+    lanes-agree (c .colors-at .ensures)
+    (λ k q.
+    plain-at-place (a .starts .now) (a .ends .now) (a .colors .now) (a .count) (a .u) (getD (a .value) k nan) (omega arith) (s .pre .1)
+    (lane-at (c .before .places-of .ensures .counted) 0 k q)
+    (c .before .before .before .before .band-at .ensures) (c .before .before .before .band-at2 .ensures) (c .before .before .edge-colors .ensures k q))
+
+pub colors-for-numeric-values-spec : {M : Type 1} → statement M
+colors-for-numeric-values-spec =
+    tie.close
+    (tie.spec
+    returns
+    band-at-requires
+    sub-band-at
+    band-at-requires-2
+    edge-colors-requires
+    places-of-requires
+    colors-at-requires
+    returns-2)

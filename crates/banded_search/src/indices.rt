@@ -1,0 +1,56 @@
+// Bands that ascend without overlap, and the place of the one band that can hold a sample, found by counting (docs/RULES.md,
+// "Banded"). A list of bands comes as in `banded_rule`, with a count of at most 64.
+ghost use mathlib.Core.Path.{_≡_};
+ghost use mathlib.Core.Bool.{cond};
+ghost use Prim.Native.Nat.{_+_, _≤_};
+ghost use lib.Ieee.{nan, le};
+ghost use lib.ListN.{getD};
+ghost use Rattle.lists.specs.Lanes.{LanesOf};
+ghost use Rattle.banded_search.specs.Apart.{apart};
+ghost use Rattle.banded_search.specs.Place.{InArrays, Placed};
+
+// Whether no counted band starts below the start or the end of the one before it: asked once a painting.
+pub fn apart(starts: &[f32; 64], ends: &[f32; 64], count: usize) -> bool
+    requires { ⌜ count ≤ 64 ⌝ }
+    ensures { λ r. ⌜ r ≡ apart (now (starts .entry)) (now (ends .entry)) count ⌝ }
+{
+    let mut result = true;
+    let mut i: usize = 1;
+    while i < count {
+        let before = i - 1;
+        result = result & (starts[before] <= starts[i]) & (ends[before] <= starts[i]);
+        i += 1;
+    }
+    result
+}
+
+// ---- the places of lanes, for a lane count that is a literal of the caller's: so they are vectorised
+
+// The place of the one band that can hold each lane's sample: a band that starts above the sample does not count.
+pub fn places_of(lanes: usize, starts: &[f32; 64], count: usize, value: [f32; 16]) -> [u32; 16]
+    requires { ⌜ (lanes ≤ 16) × (count ≤ 64) ⌝ }
+    ensures { λ r. ⌜ Placed lanes (now (starts .entry)) count value r ⌝ }
+{
+    let mut result = [0u32; 16];
+    let mut i: usize = 1;
+    while i < count {
+        let next = moved(lanes, starts[i], value, result);
+        result = next;
+        i += 1;
+    }
+    result
+}
+
+// Each lane's place moved on where a start is not above its sample.
+fn moved(lanes: usize, start: f32, value: [f32; 16], places: [u32; 16]) -> [u32; 16]
+    requires { ⌜ (lanes ≤ 16) × InArrays lanes places ⌝ }
+    ensures { λ r. ⌜ LanesOf 0 lanes (λ k. getD places k 0 + cond (le start (getD value k nan)) 1 0) r ⌝ }
+{
+    let mut result = [0u32; 16];
+    let mut i: usize = 0;
+    while i < lanes {
+        result[i] = places[i] + ((start <= value[i]) as u32);
+        i += 1;
+    }
+    result
+}

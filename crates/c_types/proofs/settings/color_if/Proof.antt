@@ -1,0 +1,13 @@
+-- `settings::color_if` meets its contract. Assumes nothing.
+use borrow.Author.Tests.{eq-eqb, ne-eqb}
+use Rattle.c_types.proofs.settings.color_if.Statement.{statement}
+use Rattle.c_types.proofs.settings.color_if.Tie as tie
+
+returns : tie.Need-returns
+returns c = simp (eq-eqb _ _ (c .if1 .taken))
+
+returns-2 : tie.Need-returns-2
+returns-2 c = simp (ne-eqb _ _ (c .if1 .left))
+
+pub color-if-spec : {M : Type 1} → statement M
+color-if-spec = tie.close (tie.spec returns returns-2)

@@ -1,0 +1,21 @@
+-- `words16` meets its contract. Assumes nothing.
+use borrow.Author.Needs.{needs}
+use Rattle.categoric_table.proofs.Phases.{in-two-phases}
+use Rattle.categoric_paint.proofs.table.words16.Statement.{statement}
+use Rattle.categoric_paint.proofs.table.words16.Tie as tie
+
+gather-requires : tie.Need-gather-requires
+gather-requires c κs = search needs
+
+known-requires : tie.Need-known-requires
+known-requires c κs = search needs
+
+returns : tie.Need-returns
+returns c =
+    let s = c .before .before in
+    let p = s .args .p in
+    in-two-phases 16 (s .args .lookup .now) (s .args .size) (p .nodata) (p .exclusions) (s .args .v) (c .before .gather .result) (c .known .result)
+    (s .pre) (c .before .gather .ensures) (c .known .ensures)
+
+pub words16-spec : {M : Type 1} → statement M
+words16-spec = tie.close (tie.spec gather-requires known-requires returns)

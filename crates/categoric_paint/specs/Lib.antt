@@ -1,0 +1,2 @@
+pub mod TableRules
+pub mod KeyRules

@@ -1,0 +1,79 @@
+-- `colors_for_numeric_values` meets its contract. Assumes nothing.
+use borrow.Author.Needs.{needs}
+use mathlib.Core.Bool.{cond}
+use mathlib.Core.Path.{ap, ap₂, _∙_}
+use Prim.Native.Nat.{ℕ}
+use lib.ListN.{getD}
+use lib.IntN.{ℤ, pos}
+use Rattle.categoric_keys.specs.Rule.{eqZ}
+use Rattle.categoric_search.specs.Halving.{colorAtEnd}
+use Rattle.categoric_search.proofs.Steps.{color-at-end}
+use Rattle.categoric_search.proofs.colors_for_numeric_values.Statement.{statement}
+use Rattle.categoric_search.proofs.colors_for_numeric_values.Tie as tie
+
+narrowed-samples-requires : tie.Need-narrowed-samples-requires
+narrowed-samples-requires c κs = search needs
+
+leading-places-requires : tie.Need-leading-places-requires
+leading-places-requires c κs = search needs
+
+halved-requires : tie.Need-halved-requires
+halved-requires c κs = search needs
+
+halved-requires-2 : tie.Need-halved-requires-2
+halved-requires-2 c κs = search needs
+
+halved-requires-3 : tie.Need-halved-requires-3
+halved-requires-3 c κs = search needs
+
+halved-requires-4 : tie.Need-halved-requires-4
+halved-requires-4 c κs = search needs
+
+halved-requires-5 : tie.Need-halved-requires-5
+halved-requires-5 c κs = search needs
+
+keys-at-requires : tie.Need-keys-at-requires
+keys-at-requires c κs = search needs
+
+colors-at-requires : tie.Need-colors-at-requires
+colors-at-requires c κs = search needs
+
+known-requires : tie.Need-known-requires
+known-requires c κs = search needs
+
+returns : tie.Need-returns
+returns c k h =
+    let s5 = c .before .before .before in
+    let s4 = s5 .before in
+    let s3 = s4 .before in
+    let s2 = s3 .before in
+    let s1 = s2 .before in
+    let s0 = s1 .before in
+    let key = s0 .before .narrowed-samples in
+    let a = s0 .before .before .args in
+    c .known .ensures k h
+    ∙ ap₂ (λ (z : ℤ) (w : ℕ). cond (eqZ z (getD (key .result) k (pos 0))) w (a .nodata)) (c .before .before .keys-at .ensures k h) (c .before .colors-at .ensures k h)
+    ∙ color-at-end (a .narrow .now) (a .colors .now) (a .nodata) (getD (key .result) k (pos 0))
+    (s0 .leading-places .ensures .0 k h)
+    (s1 .halved .ensures .0 k h)
+    (s2 .halved2 .ensures .0 k h)
+    (s3 .halved3 .ensures .0 k h)
+    (s4 .halved4 .ensures .0 k h)
+    (s5 .halved5 .ensures .0 k h)
+    ∙ ap (colorAtEnd (a .narrow .now) (a .colors .now) (a .nodata)) (key .ensures k h)
+
+pub colors-for-numeric-values-spec : {M : Type 1} → statement M
+colors-for-numeric-values-spec =
+    tie.close
+    (tie.spec
+    narrowed-samples-requires
+    leading-places-requires
+    halved-requires
+    halved-requires-2
+    halved-requires-3
+    halved-requires-4
+    halved-requires-5
+    keys-at-requires
+    colors-at-requires
+    known-requires
+    returns)

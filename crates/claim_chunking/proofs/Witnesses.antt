@@ -1,0 +1,59 @@
+-- The conditions of the rule are met: legends of each kind. And the user's conditions are among them. Assumes nothing.
+use mathlib.Core.Path.{_≡_, refl}
+use mathlib.Core.List.{[], _∷_}
+use Prim.Native.Nat.{ℕ}
+use lib.Ieee.{binary32, lt, le, add, sub, ofBits, isNan}
+use lib.ListN.{replicate}
+use Rattle.floats.specs.RampIndex.{nought}
+use Rattle.lists.specs.Padded.{padded}
+use Rattle.colormapper.specs.Settings.{noSettings}
+use Rattle.banded_columns.specs.declared.LegendBand.{LegendBand}
+use Rattle.banded_columns.specs.Band.{lastOf}
+use Rattle.banded_lanes.specs.Sound.{eachBand, eachAfter, eachNext, firstAndLast}
+use Rattle.banded_lanes.proofs.Ordering.{ordered-disjoint}
+use Rattle.banded.specs.Record.{bandedOf}
+use Rattle.catgegoric.specs.Made.{emptyCategoric}
+use Rattle.legend.specs.declared.Legend.{Legend}
+use Rattle.legend.specs.declared.LegendKind.{LegendKind}
+use Rattle.legend.specs.declared.LegendKind.the-variants as kind
+use Rattle.legend.specs.Record.{linearLegend, bandedLegend, categoricLegend}
+use Rattle.claim_chunking.specs.Rule.{LawfulIn, Lawful, AskedIn, Asked}
+
+-- ---- from 0 to 255
+pub linear-met : Lawful (linearLegend (record { start = nought; end = ofBits binary32 0x437F_0000; cmap = replicate 256 0 }) noSettings)
+unfolding lt ofBits
+linear-met = refl
+
+-- ---- bands, in the user's words: 0 to 1 and 2 to 3; two bands that are exactly E wide, 0 to E and E to 2 E; none
+abbrev band : (start end color : ℕ) → LegendBand
+band start end color = record { start = ofBits binary32 start; end = ofBits binary32 end; color = color }
+
+pub banded-met : Asked (bandedLegend (bandedOf (band 0x0000_0000 0x3F80_0000 1 ∷ band 0x4000_0000 0x4040_0000 2 ∷ [])) noSettings)
+unfolding bandedOf padded eachBand eachAfter eachNext firstAndLast lastOf add sub lt le isNan ofBits
+banded-met = (record { finite = tt; starts = tt; ascending = tt; apart = tt }, tt)
+
+pub narrowest-met : Asked (bandedLegend (bandedOf (band 0x0000_0000 0x38D1_B717 1 ∷ band 0x38D1_B717 0x3951_B717 2 ∷ [])) noSettings)
+unfolding bandedOf padded eachBand eachAfter eachNext firstAndLast lastOf add sub lt le isNan ofBits
+narrowest-met = (record { finite = tt; starts = tt; ascending = tt; apart = tt }, tt)
+
+pub empty-met : Asked (bandedLegend (bandedOf []) noSettings)
+unfolding bandedOf padded eachBand eachNext firstAndLast
+empty-met = (record { finite = tt; starts = tt; ascending = tt; apart = tt }, tt)
+
+-- ---- bands that the user does not ask for: from -infinity to 0, and from 0 to infinity
+pub infinite-met : Lawful (bandedLegend (bandedOf (band 0xFF80_0000 0x0000_0000 1 ∷ band 0x0000_0000 0x7F80_0000 2 ∷ [])) noSettings)
+unfolding bandedOf padded eachBand eachAfter eachNext firstAndLast lastOf add sub lt le isNan ofBits
+infinite-met = record { disjoint = record { starts = tt; apart = tt }; wide = tt }
+
+-- ---- every categoric legend
+pub categoric-met : Asked (categoricLegend emptyCategoric noSettings)
+categoric-met = tt
+
+-- ---- a legend that the user asks for is lawful
+asked-in : (k : LegendKind) (l : Legend) → AskedIn k l → LawfulIn k l
+asked-in kind.Linear l h = h
+asked-in kind.Banded l h = record { disjoint = ordered-disjoint (h .0); wide = h .1 }
+asked-in kind.CategoricNumeric l h = tt
+
+pub asked-lawful : (l : Legend) → Asked l → Lawful l
+asked-lawful l h = asked-in (l .kind) l h

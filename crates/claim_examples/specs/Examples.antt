@@ -1,0 +1,172 @@
+-- The twelve examples of docs/RULES.md, in one table. Each row asks the definitions for a number: a colour's word, or a count. Definitions only.
+use mathlib.Core.Bool.{Bool, true, _&&_}
+use mathlib.Core.List.{List, [], _∷_, map}
+use Prim.Native.Nat.{ℕ}
+use lib.Dec.{eqb}
+use lib.IntN.{ℤ, pos, negsuc}
+use lib.Ieee.{Float, binary32, ofBits}
+use lib.ListN.{getD}
+use Rattle.lists.specs.Tabulate.{tabulate}
+use Rattle.refusal.specs.Table.{numberOf}
+use Rattle.cast.specs.declared.Nodata.the-variants.{Absent}
+use Rattle.color.specs.Word.{wordOf}
+use Rattle.color.specs.declared.HexColor.{HexColor}
+use Rattle.color.specs.declared.HexColor.the-variants.{Made, Refused}
+use Rattle.color.specs.Hex.{hexColor}
+use Rattle.lookup.specs.Entries.{plainEntry, laneEntry, entryColor}
+use Rattle.colormap.specs.Positions.{rampColors}
+use Rattle.colormapper.specs.declared.UnmappableColors.{UnmappableColors}
+use Rattle.colormapper.specs.Unmappable.{unmappable}
+use Rattle.painting.specs.Masked.{maskedColor}
+use Rattle.linear_rule.specs.Rule as linear
+use Rattle.banded_columns.specs.declared.LegendBand.{LegendBand}
+use Rattle.banded_rule.specs.PlainRule as bands
+use Rattle.banded_lanes.specs.LaneRule.{laneColors}
+use Rattle.banded_lists.specs.Places.{blankBand}
+use Rattle.banded.specs.EqualBands.{withEqualBands}
+use Rattle.categoric_keys.specs.Rule as categories
+use Rattle.catgegoric.specs.declared.CategoricNumeric.{CategoricNumeric}
+use Rattle.catgegoric.specs.Made.{forValues}
+
+-- G is the ramp whose entry i is i, i, i, 255
+unfoldable pub gray : ℕ → ℕ
+gray i = wordOf (record { r = i; g = i; b = i; a = 255 })
+
+unfoldable pub G : List ℕ
+G = tabulate 256 gray
+
+-- colours that stand for themselves
+abbrev pub TRANSPARENT : ℕ
+TRANSPARENT = 0
+
+abbrev pub A : ℕ
+A = 101
+
+abbrev pub B : ℕ
+B = 102
+
+abbrev pub nodata : ℕ
+nodata = 103
+
+abbrev pub low : ℕ
+low = 104
+
+abbrev pub high : ℕ
+high = 105
+
+abbrev pub settings : UnmappableColors
+settings = record { nodata = nodata; low = low; high = high }
+
+-- an f32 by its bits
+abbrev pub f32 : ℕ → Float
+f32 bits = ofBits binary32 bits
+
+abbrev pub band : ℕ → ℕ → ℕ → LegendBand
+band start end color = record { start = f32 start; end = f32 end; color = color }
+
+-- what is asked. An f32 is given by its bits, a text by its bytes
+pub data Question : Type 0 where
+  plainRamp laneRamp : (fraction : ℕ) → Question
+  linearOver : (start end value : ℕ) → Question
+  -- a sample plainly, and lane k of a chunk
+  bandsAt : List LegendBand → (value : ℕ) → Question
+  chunkAt : List LegendBand → (values : List ℕ) (k : ℕ) → Question
+  -- the colour of band k of `count` equal bands from G
+  equalFromRamp : (count k : ℕ) → Question
+  categoryAt : (keys : List ℤ) (colors : List ℕ) (value : ℕ) → Question
+  categoryCount tableWords : (keys : List ℤ) (colors : List ℕ) → Question
+  hexText : List ℕ → Question
+  -- a sample of the linear legend 0 to 255 over G, with zero-is-nodata
+  zeroIsNodata : (value : ℕ) → Question
+
+-- the word of a hex colour; a refusal's number is no word of an opaque colour
+abbrev pub hexWord : HexColor → ℕ
+hexWord (Made color) = wordOf color
+hexWord (Refused why) = numberOf why
+
+unfoldable pub categoryOf : CategoricNumeric → Float → ℕ
+categoryOf m v = categories.plainColor (m .keys) (m .colors) (m .count) (m .lookup) (m .«lookup_count») nodata v
+
+unfoldable pub asked : Question → ℕ
+asked (plainRamp fraction) = entryColor G (plainEntry (f32 fraction))
+asked (laneRamp fraction) = entryColor G (laneEntry (f32 fraction))
+asked (linearOver start end value) = linear.plainColor G (f32 start) (f32 end) settings (f32 value)
+asked (bandsAt bs value) = bands.plainColor bs settings (f32 value)
+asked (chunkAt bs values k) = getD (laneColors bs settings (map f32 values)) k 0
+asked (equalFromRamp count k) = getD (withEqualBands count (f32 0x0000_0000) (f32 0x3F80_0000) (rampColors count G) .banded .bands) k blankBand .color
+asked (categoryAt keys colors value) = categoryOf (forValues keys colors .categoric) (f32 value)
+asked (categoryCount keys colors) = forValues keys colors .categoric .count
+asked (tableWords keys colors) = forValues keys colors .categoric .«lookup_count»
+asked (hexText text) = hexWord (hexColor text)
+asked (zeroIsNodata value) = maskedColor (unmappable Absent true) nodata (linear.plainColor G (f32 0x0000_0000) (f32 0x437F_0000) settings) (f32 value)
+
+pub record Example : Type 0 where
+  pub line : ℕ
+  pub question : Question
+  pub answer : ℕ
+
+abbrev row : ℕ → Question → ℕ → Example
+row line question answer = record { line = line; question = question; answer = answer }
+
+-- bands 0 to 1 (A) and 2 to 3 (B)
+abbrev apart : List LegendBand
+apart = band 0x0000_0000 0x3F80_0000 A ∷ band 0x4000_0000 0x4040_0000 B ∷ []
+
+-- bands 0 to 0.00005 (A) and 0.00005 to 1 (B)
+abbrev narrow : List LegendBand
+narrow = band 0x0000_0000 0x3851_B717 A ∷ band 0x3851_B717 0x3F80_0000 B ∷ []
+
+-- two keys with the colours A and B
+abbrev two : List ℕ
+two = A ∷ B ∷ []
+
+unfoldable pub examples : List Example
+examples =
+    -- 0.5
+    row 1 (plainRamp 0x3F00_0000) (gray 128)
+    ∷ row 1 (laneRamp 0x3F00_0000) (gray 128)
+    ∷ row 2 (plainRamp 0x3B00_8080) (gray 0)
+    ∷ row 2 (laneRamp 0x3B00_8080) (gray 1)
+    -- 1 and a NaN
+    ∷ row 3 (plainRamp 0x3F80_0000) (gray 255)
+    ∷ row 3 (laneRamp 0x3F80_0000) (gray 255)
+    ∷ row 3 (plainRamp 0x7FC0_0000) TRANSPARENT
+    ∷ row 3 (laneRamp 0x7FC0_0000) TRANSPARENT
+    -- 0 to 255: -E and -0.0002
+    ∷ row 4 (linearOver 0x0000_0000 0x437F_0000 0xB8D1_B717) (gray 0)
+    ∷ row 4 (linearOver 0x0000_0000 0x437F_0000 0xB951_B717) low
+    -- 5 to 5: 5
+    ∷ row 5 (linearOver 0x40A0_0000 0x40A0_0000 0x40A0_0000) (gray 0)
+    -- 0, 1, 3, 3.5, -0.5
+    ∷ row 6 (bandsAt apart 0x0000_0000) A
+    ∷ row 6 (bandsAt apart 0x3F80_0000) nodata
+    ∷ row 6 (bandsAt apart 0x4040_0000) B
+    ∷ row 6 (bandsAt apart 0x4060_0000) high
+    ∷ row 6 (bandsAt apart 0xBF00_0000) low
+    -- 0.00006: plainly, in a chunk with 7.0, in a chunk wholly inside
+    ∷ row 7 (bandsAt narrow 0x387B_A882) B
+    ∷ row 7 (chunkAt narrow (0x387B_A882 ∷ 0x40E0_0000 ∷ 0x387B_A882 ∷ 0x387B_A882 ∷ []) 0) A
+    ∷ row 7 (chunkAt narrow (0x387B_A882 ∷ 0x3F00_0000 ∷ 0x387B_A882 ∷ 0x387B_A882 ∷ []) 0) B
+    ∷ row 8 (equalFromRamp 11 10) TRANSPARENT
+    -- 3, -0.5, 5.9, 6
+    ∷ row 9 (categoryAt (pos 2 ∷ pos 5 ∷ []) two 0x4040_0000) TRANSPARENT
+    ∷ row 9 (categoryAt (pos 2 ∷ pos 5 ∷ []) two 0xBF00_0000) TRANSPARENT
+    ∷ row 9 (categoryAt (pos 2 ∷ pos 5 ∷ []) two 0x40BC_CCCD) B
+    ∷ row 9 (categoryAt (pos 2 ∷ pos 5 ∷ []) two 0x40C0_0000) nodata
+    -- 3, -1.5
+    ∷ row 10 (categoryAt (negsuc 0 ∷ pos 5 ∷ []) two 0x4040_0000) nodata
+    ∷ row 10 (categoryAt (negsuc 0 ∷ pos 5 ∷ []) two 0xBFC0_0000) A
+    -- 7
+    ∷ row 11 (categoryCount (pos 7 ∷ pos 7 ∷ []) two) 1
+    ∷ row 11 (categoryAt (pos 7 ∷ pos 7 ∷ []) two 0x40E0_0000) B
+    ∷ row 11 (tableWords (pos 1 ∷ pos 512 ∷ []) two) 513
+    ∷ row 11 (tableWords (pos 1 ∷ pos 513 ∷ []) two) 0
+    -- #+F0000, and -0.0
+    ∷ row 12 (hexText (35 ∷ 43 ∷ 70 ∷ 48 ∷ 48 ∷ 48 ∷ 48 ∷ [])) (wordOf (record { r = 15; g = 0; b = 0; a = 255 }))
+    ∷ row 12 (zeroIsNodata 0x8000_0000) nodata
+    ∷ []
+
+-- each row holds
+unfoldable pub allHold : List Example → Bool
+allHold [] = true
+allHold (e ∷ es) = eqb (asked (e .question)) (e .answer) && allHold es

@@ -1,2 +1,0 @@
--- What the contracts cite: a step of the search.
-pub mod Halving

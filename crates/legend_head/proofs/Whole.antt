@@ -1,7 +1,0 @@
--- A legend's head and its arrays are the legend. Assumes nothing.
-use mathlib.Core.Path.{_≡_, refl}
-use Rattle.legend.specs.declared.Legend.{Legend}
-use Rattle.legend_head.specs.Lent.{lentLegend, headOf}
-
-pub whole-again : (l : Legend) → lentLegend (headOf l) (l .linear .cmap) (l .categoric .keys) (l .categoric .colors) (l .categoric .lookup) ≡ l
-whole-again l = refl

@@ -1,0 +1,58 @@
+-- `banded_paint` meets its contract. Assumes nothing.
+use mathlib.Core.Path.{_≡_, ap, subst, sym, _∙_}
+use native.Mathlib.Omega.{arith}
+use Prim.Native.Nat.{_≤_}
+use lib.ListN.{length, length-map}
+use Rattle.banded_columns.specs.declared.LegendBand.{LegendBand}
+use Rattle.banded_chunk.specs.declared.BandedPaint.{BandedPaint}
+use Rattle.legend.specs.Painters.{bandedPainter}
+use Rattle.legend_paint.proofs.Lanes.{lanes-count, painted-plainly, painted-in-lanes}
+use Rattle.legend_paint.proofs.Same.{banded-simd, bands-sample, bands-chunk}
+use borrow.Author.Needs.{needs}
+use Rattle.legend_paint.proofs.paint_banded.Statement.{statement}
+use Rattle.legend_paint.proofs.paint_banded.Tie as tie
+
+banded-paint-requires : tie.Need-banded-paint-requires
+banded-paint-requires c κs = search needs
+
+starts-of-requires : tie.Need-starts-of-requires
+starts-of-requires c κs = search needs
+
+ends-of-requires : tie.Need-ends-of-requires
+ends-of-requires c κs = search needs
+
+colors-of-requires : tie.Need-colors-of-requires
+colors-of-requires c κs = search needs
+
+paint-requires : tie.Need-paint-requires
+paint-requires c κs = (subst (λ (p : BandedPaint). p .count ≤ 64) (sym (c .before .before .before .before .before .before .before .before .before .banded-paint .ensures)) (c .before .before .before .before .before .before .before .before .before .before .before .before .pre .0), search needs)
+
+same-length : tie.Need-same-length
+same-length c = search needs
+
+returns : tie.Need-returns
+returns c = let a = c .before .before .before .before .before .before .before .before .before .before .before .before .before .before .before .args in let long : length (a .banded .bands) ≡ 64 = sym (length-map (a .banded .bands) (λ (x : LegendBand). x .start)) ∙ ap length (sym (c .before .before .before .before .before .before .before .before .before .before .starts-of .ensures)) ∙ search needs in let few : a .banded .count ≤ length (a .banded .bands) = omega (arith, long, c .before .before .before .before .before .before .before .before .before .before .before .before .before .before .before .pre .0) in c .before .before .paint .ensures ∙ painted-plainly (bandedPainter (a .banded) (a .config) (a .nodata)) (a .lanes) (a .src .now) (bands-sample (a .config) (a .nodata) (a .banded) few (c .before .before .before .before .before .before .before .before .before .before .before .before .banded-paint .ensures) (c .before .before .before .before .before .before .before .before .before .before .starts-of .ensures) (c .before .before .before .before .before .before .before .before .before .ends-of .ensures) (c .before .before .before .before .before .before .before .before .colors-of .ensures)) (c .before .before .before .before .before .before .before .if1 .taken)
+
+paint-simd-requires : tie.Need-paint-simd-requires
+paint-simd-requires c κs = (subst (λ (p : BandedPaint). p .count ≤ 64) (sym (c .before .before .before .before .before .before .before .before .before .banded-paint .ensures)) (c .before .before .before .before .before .before .before .before .before .before .before .before .pre .0), lanes-count (c .before .before .before .before .before .before .before .before .before .before .before .before .args .lanes) (c .before .before .before .before .before .before .before .before .before .before .before .before .pre .1) (c .before .before .before .before .if1 .left), search needs)
+
+same-length-2 : tie.Need-same-length-2
+same-length-2 c = search needs
+
+returns-2 : tie.Need-returns-2
+returns-2 c = let a = c .before .before .before .before .before .before .before .before .before .before .before .before .before .before .before .args in let long : length (a .banded .bands) ≡ 64 = sym (length-map (a .banded .bands) (λ (x : LegendBand). x .start)) ∙ ap length (sym (c .before .before .before .before .before .before .before .before .before .before .starts-of .ensures)) ∙ search needs in let few : a .banded .count ≤ length (a .banded .bands) = omega (arith, long, c .before .before .before .before .before .before .before .before .before .before .before .before .before .before .before .pre .0) in c .before .before .paint-simd .ensures ∙ painted-in-lanes (bandedPainter (a .banded) (a .config) (a .nodata)) (a .lanes) (a .src .now) (bands-chunk (a .config) (a .nodata) (a .banded) few (c .before .before .before .before .before .before .before .before .before .before .before .before .banded-paint .ensures) (c .before .before .before .before .before .before .before .before .before .before .starts-of .ensures) (c .before .before .before .before .before .before .before .before .before .ends-of .ensures) (c .before .before .before .before .before .before .before .before .colors-of .ensures)) (bands-sample (a .config) (a .nodata) (a .banded) few (c .before .before .before .before .before .before .before .before .before .before .before .before .banded-paint .ensures) (c .before .before .before .before .before .before .before .before .before .before .starts-of .ensures) (c .before .before .before .before .before .before .before .before .before .ends-of .ensures) (c .before .before .before .before .before .before .before .before .colors-of .ensures)) (banded-simd (a .config) (a .nodata) (a .banded)) (c .before .before .before .before .before .before .before .if1 .left)
+
+pub paint-banded-spec : {M : Type 1} → statement M
+paint-banded-spec =
+    tie.close
+    (tie.spec
+    banded-paint-requires
+    starts-of-requires
+    ends-of-requires
+    colors-of-requires
+    paint-requires
+    same-length
+    returns
+    paint-simd-requires
+    same-length-2
+    returns-2)

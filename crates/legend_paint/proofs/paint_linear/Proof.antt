@@ -1,0 +1,43 @@
+-- `linear_paint` meets its contract. Assumes nothing.
+use mathlib.Core.Path.{ap, _∙_}
+use Rattle.linear_paint.specs.Rules.{plainSample, laneChunk}
+use Rattle.legend.specs.Painters.{linearPainter}
+use Rattle.legend_view.specs.Lent.{lentLinear}
+use Rattle.legend_paint.proofs.Lanes.{lanes-count, painted-plainly, painted-in-lanes}
+use Rattle.legend_paint.proofs.Same.{linear-simd, linear-sample, linear-chunk}
+use borrow.Author.Needs.{needs}
+use Rattle.legend_paint.proofs.paint_linear.Statement.{statement}
+use Rattle.legend_paint.proofs.paint_linear.Tie as tie
+
+linear-paint-requires : tie.Need-linear-paint-requires
+linear-paint-requires c κs = search needs
+
+paint-requires : tie.Need-paint-requires
+paint-requires c κs = search needs
+
+same-length : tie.Need-same-length
+same-length c = search needs
+
+returns : tie.Need-returns
+returns c = let a = c .before .before .before .before .before .before .before .before .args in let l = lentLinear (a .start) (a .end) (a .cmap .now) in c .before .before .paint .ensures ∙ painted-plainly (linearPainter l (a .config) (a .nodata)) (a .lanes) (a .src .now) (ap (plainSample (a .cmap .now)) (c .before .before .before .before .before .linear-paint .ensures) ∙ linear-sample (a .config) (a .nodata) l) (c .before .before .before .before .if1 .taken)
+
+paint-simd-requires : tie.Need-paint-simd-requires
+paint-simd-requires c κs = (lanes-count (c .before .before .before .before .before .args .lanes) (c .before .before .before .before .before .pre .0) (c .before .if1 .left), search needs)
+
+same-length-2 : tie.Need-same-length-2
+same-length-2 c = search needs
+
+returns-2 : tie.Need-returns-2
+returns-2 c = let a = c .before .before .before .before .before .before .before .before .args in let l = lentLinear (a .start) (a .end) (a .cmap .now) in c .before .before .paint-simd .ensures ∙ painted-in-lanes (linearPainter l (a .config) (a .nodata)) (a .lanes) (a .src .now) (ap (laneChunk (a .cmap .now)) (c .before .before .before .before .before .linear-paint .ensures) ∙ linear-chunk (a .config) (a .nodata) l) (ap (plainSample (a .cmap .now)) (c .before .before .before .before .before .linear-paint .ensures) ∙ linear-sample (a .config) (a .nodata) l) (linear-simd (a .config) (a .nodata) l) (c .before .before .before .before .if1 .left)
+
+pub paint-linear-spec : {M : Type 1} → statement M
+paint-linear-spec =
+    tie.close
+    (tie.spec
+    linear-paint-requires
+    paint-requires
+    same-length
+    returns
+    paint-simd-requires
+    same-length-2
+    returns-2)

@@ -1,0 +1,70 @@
+-- `f32_of_i16` meets its contract. Assumes nothing.
+use borrow.Author.Needs.{needs}
+use mathlib.Core.Path.{_≡_, refl, ap, _∙_}
+use native.Mathlib.Omega.{arith}
+use Prim.Native.Nat.{_-_}
+use mathlib.Core.List.{map}
+use lib.Ieee.{nan}
+use lib.ListN.{length, getD}
+use lib.Seq.{take-all}
+use lib.IntN.{pos}
+use Rattle.cast.specs.Samples.{ofI16}
+use Rattle.lists.proofs.Filling.{Filling, filling-start, filling-turn, filling-end}
+use Rattle.painting.proofs.Lists.{lanes-list}
+use mir.Syntax.{w16}
+use mir.Facts.{toZ-ofZ}
+use Rattle.legend_samples.proofs.f32_of_i16.Statement.{statement}
+use Rattle.legend_samples.proofs.f32_of_i16.Tie as tie
+
+abbrev Inv-loop : tie.InvT-loop
+Inv-loop src n result₀ i₀ result i = (n ≡ length src) × Filling nan (λ k. ofI16 (getD src k (pos 0))) 256 n i result
+
+abbrev μ-loop : tie.MeasureT-loop
+μ-loop src n result₀ i₀ result i = n - i
+
+loop-holds : tie.Need-loop-holds Inv-loop μ-loop
+loop-holds c = (refl, filling-start (search needs))
+
+mul-i16-to-f32 : tie.Need-mul-i16-to-f32 Inv-loop μ-loop
+mul-i16-to-f32 c = search needs
+
+shared-slice-copy-out-i16-to-f32 : tie.Need-shared-slice-copy-out-i16-to-f32 Inv-loop μ-loop
+shared-slice-copy-out-i16-to-f32 c = search needs
+
+i16-to-f32-requires : tie.Need-i16-to-f32-requires Inv-loop μ-loop
+i16-to-f32-requires c κs = search needs
+
+mul-result : tie.Need-mul-result Inv-loop μ-loop
+mul-result c = search needs
+
+array-write-result : tie.Need-array-write-result Inv-loop μ-loop
+array-write-result c = search needs
+
+add-i : tie.Need-add-i Inv-loop μ-loop
+add-i c = search needs
+
+loop-less : tie.Need-loop-less Inv-loop μ-loop
+loop-less c = search needs
+
+loop-again : tie.Need-loop-again Inv-loop μ-loop
+loop-again c = (refl, filling-turn (c .before .before .before .loop .inv .1) (omega arith) (omega arith) (c .i16-to-f32 .ensures ∙ ap ofI16 (toZ-ofZ {w = w16} (record { sfits = c .before .i16-to-f32-arg .given }))))
+
+returns : tie.Need-returns Inv-loop μ-loop
+returns c = let src = c .before .before .args .src .now in let i = c .before .loop .inv .1 in lanes-list (pos 0) nan ofI16 (length src) (c .before .loop .result) src (omega (arith, i .long)) (omega arith) (filling-end i (omega arith)) ∙ ap (map ofI16) (take-all (length src) src (omega arith))
+
+pub f32-of-i16-spec : {M : Type 1} → statement M
+f32-of-i16-spec =
+    tie.close
+    (tie.spec
+    Inv-loop
+    μ-loop
+    loop-holds
+    mul-i16-to-f32
+    shared-slice-copy-out-i16-to-f32
+    i16-to-f32-requires
+    mul-result
+    array-write-result
+    add-i
+    loop-less
+    loop-again
+    returns)

@@ -1,0 +1,193 @@
+// Painting samples that are u8 or i16 by a legend of any kind: they are turned into f32 by blocks of 256. Plainly with 0 lanes, else in
+// lanes. The refusals are the caller's.
+use cast::Nodata;
+use legend_view::Head;
+ghost use mathlib.Core.Path.{_≡_};
+ghost use mathlib.Core.Bool.{true};
+ghost use mathlib.Core.List.{map, _++_};
+ghost use Prim.Native.Nat.{_+_, _-_, _≤_};
+ghost use lib.ListN.{length, take, drop};
+ghost use Rattle.refusal.specs.declared.Answer.the-variants.{Done};
+ghost use Rattle.cast.specs.Samples.{ofU8, ofI16};
+ghost use Rattle.legend.specs.Record.{storedRefusal};
+ghost use Rattle.legend.specs.Painters.{painter};
+ghost use Rattle.legend_view.specs.Lent.{lentLegend};
+ghost use Rattle.legend_paint.specs.PlainOrLanes.{painted, plainOrLanes};
+
+// ---- samples that are u8
+
+// A block of them as f32, zeros after it.
+fn f32_of_u8(src: &[u8]) -> [f32; 256]
+    requires { ⌜ length (now src) ≤ 256 ⌝ }
+    ensures { λ r. ⌜ take (length (now (src .entry))) r ≡ map ofU8 (now (src .entry)) ⌝ }
+{
+    let n = src.len();
+    let mut result = [0.0f32; 256];
+    let mut i: usize = 0;
+    while i < n {
+        result[i] = cast::u8_to_f32(src[i]);
+        i += 1;
+    }
+    result
+}
+
+// The samples from one place to another, at most 256.
+fn block_u8(
+    head: Head,
+    cmap: &[u32; 256],
+    keys: &[i64; 256],
+    colors: &[u32; 256],
+    lookup: &[u32; 513],
+    nodata: Nodata,
+    lanes: usize,
+    src: &[u8],
+    from: usize,
+    to: usize,
+    out: &mut [u32],
+)
+    requires { ⌜ (storedRefusal (lentLegend head (now cmap) (now keys) (now colors) (now lookup)) ≡ Done) × (plainOrLanes lanes ≡ true) × (from ≤ to) × (to ≤ from + 256) × (to ≤ length (now src)) × (length (now out) ≡ length (now src)) ⌝ }
+    ensures { λ _. ⌜ now (out .exit) ≡ take from (now (out .entry)) ++ painted (painter (lentLegend head (now (cmap .entry)) (now (keys .entry)) (now (colors .entry)) (now (lookup .entry))) nodata) lanes (take (to - from) (drop from (map ofU8 (now (src .entry))))) ++ drop to (now (out .entry)) ⌝ }
+{
+    let samples = f32_of_u8(&src[from..to]);
+    let count = to - from;
+    let part = &samples[..count];
+    let place = &mut out[from..to];
+    legend_paint::paint_simd(head, cmap, keys, colors, lookup, nodata, lanes, part, place);
+}
+
+pub fn paint_u8(
+    head: Head,
+    cmap: &[u32; 256],
+    keys: &[i64; 256],
+    colors: &[u32; 256],
+    lookup: &[u32; 513],
+    nodata: Nodata,
+    lanes: usize,
+    src: &[u8],
+    out: &mut [u32],
+)
+    requires { ⌜ (storedRefusal (lentLegend head (now cmap) (now keys) (now colors) (now lookup)) ≡ Done) × (plainOrLanes lanes ≡ true) × (length (now out) ≡ length (now src)) ⌝ }
+    ensures { λ _. ⌜ now (out .exit) ≡ painted (painter (lentLegend head (now (cmap .entry)) (now (keys .entry)) (now (colors .entry)) (now (lookup .entry))) nodata) lanes (map ofU8 (now (src .entry))) ⌝ }
+{
+    let n = src.len();
+    let mut base: usize = 0;
+    while 256 <= n - base {
+        let next = base + 256;
+        block_u8(
+            head,
+            cmap,
+            keys,
+            colors,
+            lookup,
+            nodata,
+            lanes,
+            src,
+            base,
+            next,
+            out,
+        );
+        base = next;
+    }
+    block_u8(
+        head,
+        cmap,
+        keys,
+        colors,
+        lookup,
+        nodata,
+        lanes,
+        src,
+        base,
+        n,
+        out,
+    );
+}
+
+// ---- samples that are i16
+
+// A block of them as f32, zeros after it.
+fn f32_of_i16(src: &[i16]) -> [f32; 256]
+    requires { ⌜ length (now src) ≤ 256 ⌝ }
+    ensures { λ r. ⌜ take (length (now (src .entry))) r ≡ map ofI16 (now (src .entry)) ⌝ }
+{
+    let n = src.len();
+    let mut result = [0.0f32; 256];
+    let mut i: usize = 0;
+    while i < n {
+        result[i] = cast::i16_to_f32(src[i]);
+        i += 1;
+    }
+    result
+}
+
+// The samples from one place to another, at most 256.
+fn block_i16(
+    head: Head,
+    cmap: &[u32; 256],
+    keys: &[i64; 256],
+    colors: &[u32; 256],
+    lookup: &[u32; 513],
+    nodata: Nodata,
+    lanes: usize,
+    src: &[i16],
+    from: usize,
+    to: usize,
+    out: &mut [u32],
+)
+    requires { ⌜ (storedRefusal (lentLegend head (now cmap) (now keys) (now colors) (now lookup)) ≡ Done) × (plainOrLanes lanes ≡ true) × (from ≤ to) × (to ≤ from + 256) × (to ≤ length (now src)) × (length (now out) ≡ length (now src)) ⌝ }
+    ensures { λ _. ⌜ now (out .exit) ≡ take from (now (out .entry)) ++ painted (painter (lentLegend head (now (cmap .entry)) (now (keys .entry)) (now (colors .entry)) (now (lookup .entry))) nodata) lanes (take (to - from) (drop from (map ofI16 (now (src .entry))))) ++ drop to (now (out .entry)) ⌝ }
+{
+    let samples = f32_of_i16(&src[from..to]);
+    let count = to - from;
+    let part = &samples[..count];
+    let place = &mut out[from..to];
+    legend_paint::paint_simd(head, cmap, keys, colors, lookup, nodata, lanes, part, place);
+}
+
+pub fn paint_i16(
+    head: Head,
+    cmap: &[u32; 256],
+    keys: &[i64; 256],
+    colors: &[u32; 256],
+    lookup: &[u32; 513],
+    nodata: Nodata,
+    lanes: usize,
+    src: &[i16],
+    out: &mut [u32],
+)
+    requires { ⌜ (storedRefusal (lentLegend head (now cmap) (now keys) (now colors) (now lookup)) ≡ Done) × (plainOrLanes lanes ≡ true) × (length (now out) ≡ length (now src)) ⌝ }
+    ensures { λ _. ⌜ now (out .exit) ≡ painted (painter (lentLegend head (now (cmap .entry)) (now (keys .entry)) (now (colors .entry)) (now (lookup .entry))) nodata) lanes (map ofI16 (now (src .entry))) ⌝ }
+{
+    let n = src.len();
+    let mut base: usize = 0;
+    while 256 <= n - base {
+        let next = base + 256;
+        block_i16(
+            head,
+            cmap,
+            keys,
+            colors,
+            lookup,
+            nodata,
+            lanes,
+            src,
+            base,
+            next,
+            out,
+        );
+        base = next;
+    }
+    block_i16(
+        head,
+        cmap,
+        keys,
+        colors,
+        lookup,
+        nodata,
+        lanes,
+        src,
+        base,
+        n,
+        out,
+    );
+}

@@ -1,0 +1,74 @@
+// Painting rasters plainly by a legend whose arrays are lent (docs/RULES.md, "Painting"). Samples are f32, u8 or i16.
+use cast::Nodata;
+use cast::NodataI16;
+use cast::NodataU8;
+use legend_view::Head;
+use refusal::Answer;
+ghost use mathlib.Core.List.{map};
+ghost use Rattle.cast.specs.Samples.{ofU8, ofI16};
+ghost use Rattle.cast.specs.Nodata.{nodataU8, nodataI16};
+ghost use Rattle.painting.specs.Contracts.{PlainPainting};
+ghost use Rattle.legend.specs.Painters.{painter};
+ghost use Rattle.legend_view.specs.Lent.{lentLegend};
+
+pub fn apply_to_data_scalar(
+    head: Head,
+    cmap: &[u32; 256],
+    keys: &[i64; 256],
+    colors: &[u32; 256],
+    lookup: &[u32; 513],
+    src: &[f32],
+    nodata: Nodata,
+    out: &mut [u32],
+) -> Answer
+    ensures { λ r. ⌜ PlainPainting (painter (lentLegend head (now (cmap .entry)) (now (keys .entry)) (now (colors .entry)) (now (lookup .entry))) nodata) (now (src .entry)) (now (out .entry)) r (now (out .exit)) ⌝ }
+{
+    let answer = painting::plain_refusal(head.stored_refusal(), src.len(), out.len());
+    if let Answer::Refused(_) = answer {
+        return answer;
+    }
+    legend_paint::paint(head, cmap, keys, colors, lookup, nodata, src, out);
+    answer
+}
+
+pub fn apply_to_data_scalar_u8(
+    head: Head,
+    cmap: &[u32; 256],
+    keys: &[i64; 256],
+    colors: &[u32; 256],
+    lookup: &[u32; 513],
+    src: &[u8],
+    nodata: NodataU8,
+    out: &mut [u32],
+) -> Answer
+    ensures { λ r. ⌜ PlainPainting (painter (lentLegend head (now (cmap .entry)) (now (keys .entry)) (now (colors .entry)) (now (lookup .entry))) (nodataU8 nodata)) (map ofU8 (now (src .entry))) (now (out .entry)) r (now (out .exit)) ⌝ }
+{
+    let answer = painting::plain_refusal(head.stored_refusal(), src.len(), out.len());
+    if let Answer::Refused(_) = answer {
+        return answer;
+    }
+    let value = cast::option_u8(nodata);
+    legend_samples::paint_u8(head, cmap, keys, colors, lookup, value, 0, src, out);
+    answer
+}
+
+pub fn apply_to_data_scalar_i16(
+    head: Head,
+    cmap: &[u32; 256],
+    keys: &[i64; 256],
+    colors: &[u32; 256],
+    lookup: &[u32; 513],
+    src: &[i16],
+    nodata: NodataI16,
+    out: &mut [u32],
+) -> Answer
+    ensures { λ r. ⌜ PlainPainting (painter (lentLegend head (now (cmap .entry)) (now (keys .entry)) (now (colors .entry)) (now (lookup .entry))) (nodataI16 nodata)) (map ofI16 (now (src .entry))) (now (out .entry)) r (now (out .exit)) ⌝ }
+{
+    let answer = painting::plain_refusal(head.stored_refusal(), src.len(), out.len());
+    if let Answer::Refused(_) = answer {
+        return answer;
+    }
+    let value = cast::option_i16(nodata);
+    legend_samples::paint_i16(head, cmap, keys, colors, lookup, value, 0, src, out);
+    answer
+}

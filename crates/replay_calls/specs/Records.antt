@@ -1,0 +1,75 @@
+-- The words of what a legend holds. Definitions only.
+use mathlib.Core.Bool.{Bool}
+use mathlib.Core.List.{List, [], _∷_, map}
+use Prim.Native.Nat.{ℕ, _+_, _*_, _%_}
+use lib.Ieee.{Float, nan}
+use lib.IntN.{ℤ, pos}
+use lib.ListN.{getD}
+use mir.Val.{boolByte}
+use Rattle.lists.specs.Tabulate.{tabulate}
+use Rattle.colormapper.specs.declared.OptionalColor.{OptionalColor}
+use Rattle.colormapper.specs.declared.OptionalColor.the-variants.{Given, Absent}
+use Rattle.colormapper.specs.declared.MappingConfig.{MappingConfig}
+use Rattle.colormapper.specs.Settings.{orElse}
+use Rattle.banded_columns.specs.declared.LegendBand.{LegendBand}
+use Rattle.banded.specs.declared.Banded.{Banded}
+use Rattle.catgegoric.specs.declared.CategoricNumeric.{CategoricNumeric}
+use Rattle.legend.specs.declared.LegendKind.{LegendKind}
+use Rattle.legend.specs.declared.LegendKind.the-variants as kind
+use Rattle.legend.specs.declared.Legend.{Legend}
+use Rattle.replay_rows.specs.Values.{bitsOf, lowOf}
+use Rattle.replay_rows.specs.Parts.{over}
+
+-- ---- ten words
+abbrev pub kindWord : LegendKind → ℕ
+kindWord kind.Linear = 0
+kindWord kind.Banded = 1
+kindWord kind.CategoricNumeric = 2
+
+abbrev pub givenWord : OptionalColor → ℕ
+givenWord (Given color) = 1
+givenWord Absent = 0
+
+-- the flags of a row's settings
+unfoldable pub flagsWord : MappingConfig → ℕ
+flagsWord config = givenWord (config .«out_of_range_low_color») + 2 * givenWord (config .«out_of_range_high_color») + 4 * boolByte (config .«zero_is_nodata»)
+
+unfoldable pub headWords : Legend → List ℕ
+headWords l =
+    let config = l .«mapping_config» in
+    kindWord (l .kind)
+    ∷ config .«nodata_color»
+    ∷ flagsWord config
+    ∷ orElse (config .«out_of_range_low_color») 0
+    ∷ orElse (config .«out_of_range_high_color») 0
+    ∷ bitsOf (l .linear .start)
+    ∷ bitsOf (l .linear .end)
+    ∷ l .banded .count % 4294967296
+    ∷ l .categoric .count % 4294967296
+    ∷ l .categoric .«lookup_count» % 4294967296
+    ∷ []
+
+-- ---- the arrays of the kind
+unfoldable pub floatWords : List Float → List ℕ
+floatWords floats = tabulate 64 (λ k. bitsOf (getD floats k nan))
+
+unfoldable pub keyWords : List ℤ → List ℕ
+keyWords keys = tabulate 256 (λ k. lowOf (getD keys k (pos 0)))
+
+-- starts, ends, colours
+unfoldable pub withBands : Banded → List ℕ → List ℕ
+withBands banded row =
+    let bands = banded .bands in
+    over 776 (map (λ (b : LegendBand). b .color) bands) (over 712 (floatWords (map (λ (b : LegendBand). b .end) bands)) (over 648 (floatWords (map (λ (b : LegendBand). b .start) bands)) row))
+
+-- keys, colours, table
+unfoldable pub withCategories : CategoricNumeric → List ℕ → List ℕ
+withCategories c row = over 1160 (c .lookup) (over 904 (c .colors) (over 648 (keyWords (c .keys)) row))
+
+abbrev pub withArrays : LegendKind → Legend → List ℕ → List ℕ
+withArrays kind.Linear l row = over 648 (l .linear .cmap) row
+withArrays kind.Banded l row = withBands (l .banded) row
+withArrays kind.CategoricNumeric l row = withCategories (l .categoric) row
+
+unfoldable pub withRecord : Legend → List ℕ → List ℕ
+withRecord l row = withArrays (l .kind) l (over 132 (headWords l) row)

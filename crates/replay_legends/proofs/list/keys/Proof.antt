@@ -1,0 +1,67 @@
+-- `keys` meets its contract. Assumes nothing.
+use borrow.Author.Needs.{needs}
+use native.Mathlib.Omega.{arith}
+use Prim.Native.Nat.{_+_, _-_}
+use lib.ListN.{getD}
+use Rattle.lists.proofs.Padding.{Storing, storing-start, storing-turn, storing-end}
+use lib.IntN.{pos}
+use Rattle.replay_rows.specs.Values.{wholeOf}
+use Rattle.replay_legends.proofs.list.keys.Statement.{statement}
+use Rattle.replay_legends.proofs.list.keys.Tie as tie
+
+abbrev Inv-loop : tie.InvT-loop
+Inv-loop row keys₀ i₀ keys i = Storing (pos 0) (λ k. wholeOf (getD row (32 + k) 0)) 256 16 i keys
+
+abbrev μ-loop : tie.MeasureT-loop
+μ-loop row keys₀ i₀ keys i = 16 - i
+
+loop-holds : tie.Need-loop-holds Inv-loop μ-loop
+loop-holds c = storing-start
+
+add-key : tie.Need-add-key Inv-loop μ-loop
+add-key c = search needs
+
+mul-key : tie.Need-mul-key Inv-loop μ-loop
+mul-key c = search needs
+
+element-copy-out-key : tie.Need-element-copy-out-key Inv-loop μ-loop
+element-copy-out-key c = search needs
+
+key-requires : tie.Need-key-requires Inv-loop μ-loop
+key-requires c κs = search needs
+
+mul-keys : tie.Need-mul-keys Inv-loop μ-loop
+mul-keys c = search needs
+
+array-set-from-keys : tie.Need-array-set-from-keys Inv-loop μ-loop
+array-set-from-keys c = search needs
+
+add-i : tie.Need-add-i Inv-loop μ-loop
+add-i c = search needs
+
+loop-less : tie.Need-loop-less Inv-loop μ-loop
+loop-less c = search needs
+
+loop-again : tie.Need-loop-again Inv-loop μ-loop
+loop-again c = storing-turn (c .before .before .before .loop .inv) (omega arith) (omega arith) (search needs)
+
+returns : tie.Need-returns Inv-loop μ-loop
+returns c = storing-end (c .before .loop .inv) (omega arith)
+
+pub keys-spec : {M : Type 1} → statement M
+keys-spec =
+    tie.close
+    (tie.spec
+    Inv-loop
+    μ-loop
+    loop-holds
+    add-key
+    mul-key
+    element-copy-out-key
+    key-requires
+    mul-keys
+    array-set-from-keys
+    add-i
+    loop-less
+    loop-again
+    returns)

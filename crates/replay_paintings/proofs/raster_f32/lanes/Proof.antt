@@ -1,0 +1,54 @@
+-- `lanes` meets its contract. Assumes nothing.
+use Prim.Native.Nat.{_-_}
+use mathlib.Core.Path.{sym, refl}
+use lib.ListN.{take}
+use Rattle.replay_paintings.proofs.Painting.{taken, lanes-are, laned}
+use borrow.Author.Needs.{needs}
+use Rattle.replay_paintings.proofs.raster_f32.lanes.Statement.{statement}
+use Rattle.replay_paintings.proofs.raster_f32.lanes.Tie as tie
+
+head-of-requires : tie.Need-head-of-requires
+head-of-requires c κs = search needs
+
+array-share-prefix-samples : tie.Need-array-share-prefix-samples
+array-share-prefix-samples c = search needs
+
+slice-aggregate-apply-to-data-kernel : tie.Need-slice-aggregate-apply-to-data-kernel
+slice-aggregate-apply-to-data-kernel c =
+    let s12 = c .before .before .before .before .before .before .before .before .before .before .before .before in
+    let a = s12 .args in taken (a .count) (a .t3) (search needs) (search needs)
+
+array-borrow-prefix-words : tie.Need-array-borrow-prefix-words
+array-borrow-prefix-words c = search needs
+
+slice-aggregate-apply-to-data-kernel-2 : tie.Need-slice-aggregate-apply-to-data-kernel-2
+slice-aggregate-apply-to-data-kernel-2 c =
+    let s13 = c .before .before .before .before .before .before .before .before .before .before .before .before .before in
+    let a = s13 .args in taken (a .count) _ refl (search needs)
+
+slice-aggregate-apply-to-data-kernel-3 : tie.Need-slice-aggregate-apply-to-data-kernel-3
+slice-aggregate-apply-to-data-kernel-3 c = search needs
+
+apply-to-data-kernel-requires : tie.Need-apply-to-data-kernel-requires
+apply-to-data-kernel-requires c κs = search needs
+
+returns : tie.Need-returns
+returns c =
+    let s5 = c .before .before .before .before .before in
+    let s10 = s5 .before .before .before .before .before in
+    let s17 = s10 .before .before .before .before .before .before .before in
+    let a = s17 .args in
+    lanes-are (a .count) (take (a .count) (a .t3)) (s17 .pre) (sym (slice-aggregate-apply-to-data-kernel (s5))) (laned (a .legend) (a .nodata) (s10 .head-of .ensures) (c .before .before .apply-to-data-kernel .ensures))
+
+pub lanes-spec : {M : Type 1} → statement M
+lanes-spec =
+    tie.close
+    (tie.spec
+    head-of-requires
+    array-share-prefix-samples
+    slice-aggregate-apply-to-data-kernel
+    array-borrow-prefix-words
+    slice-aggregate-apply-to-data-kernel-2
+    slice-aggregate-apply-to-data-kernel-3
+    apply-to-data-kernel-requires
+    returns)

@@ -1,4 +1,0 @@
-pub mod Rooms
-pub mod Inserting
-pub mod Ascending
-pub mod Putting

@@ -1,2 +1,0 @@
-pub mod Categories
-pub mod Steps
