@@ -12,7 +12,7 @@ use lib.ListN.{length, getD, length-map}
 use Rattle.colormapper.specs.declared.UnmappableColors.{UnmappableColors}
 use Rattle.banded_columns.specs.declared.LegendBand.{LegendBand}
 use Rattle.banded_columns.specs.Band.{holds, lastOf}
-use Rattle.banded_rule.specs.PlainRule.{plainRule, ruleColor, plainColor}
+use Rattle.banded_rule.specs.PlainRule.{plainRule, plainColor}
 use Rattle.banded_lanes.specs.Edges.{Lane, edged}
 use Rattle.banded_lanes.specs.LaneRule.{started, over, allInside, scanned, laneColors}
 use Rattle.banded_lanes.specs.Sound.{Sound}
@@ -112,6 +112,6 @@ module _ (b : LegendBand) (bs : List LegendBand) (s : Sound (b ∷ bs)) (u : Unm
       go false a i = ap (λ (ls : List Lane). getD (scanned edge qs ls) k 0) moved ∙ i
 
 pub lane-law : (bands : List LegendBand) → Sound bands → (u : UnmappableColors) (vs : List Float) (k : ℕ) → T (not (isNan (getD vs k nan))) → getD (laneColors bands u vs) k 0 ≡ plainColor bands u (getD vs k nan)
-unfolding laneColors plainRule ruleColor
+unfolding laneColors plainRule
 lane-law [] s u vs k n = map-at (λ (v : Float). u .nodata) vs k nan 0 (in-chunk vs k n)
 lane-law (b ∷ bs) s u vs k n = unfold state held laneIn in scan-law b bs s u vs k n [] (b ∷ bs) refl

@@ -2,38 +2,47 @@
 use Prim.Native.Nat.{ℕ, zero, suc, _+_, _-_, _≤_, _<_}
 use mathlib.Core.Path.{_≡_, refl, sym, ap, ap₂, _∙_}
 use mathlib.Core.Bool.{Bool, true, false, cond}
-use mathlib.Core.List.{List, [], _∷_}
+use mathlib.Core.List.{List, [], _∷_, map}
 use native.Mathlib.Numerals.{add-one}
 use native.Mathlib.Omega.{arith}
 use lib.Ieee.{Float, lt}
-use lib.ListN.{drop, drop-of-length-le}
+use lib.ListN.{getD, drop, drop-of-length-le}
 use lib.Seq.{drop-cons}
+use Rattle.lists.specs.Outer.{lastOr}
 use Rattle.lists.specs.Tabulate.{tabulate}
 use Rattle.lists.proofs.Tabulated.{length-tabulate, getD-tabulate}
 use Rattle.colormapper.specs.declared.UnmappableColors.{UnmappableColors}
 use Rattle.colormapper.specs.Tolerance.{within}
 use Rattle.banded_columns.specs.declared.LegendBand.{LegendBand}
 use Rattle.banded_columns.specs.Band.{holds, lastOf}
-use Rattle.banded_rule.specs.PlainRule.{Rule, band, lowerEdge, upperEdge, low, high, gap, firstBand, edges, plainRule, bandColor, ruleColor, plainColor}
+use Rattle.colormapper.specs.Rule.{Rule, band, lowerEdge, upperEdge, low, high, gap, ruleColor}
+use Rattle.banded_rule.specs.PlainRule.{firstBand, edges, plainRule, bandedRuleColors, plainColor}
 use Rattle.banded_rule.specs.Packed.{bandAt, packed}
 use Rattle.banded_rule.specs.Parts.{firstColor, edgeColor}
+
+abbrev colors : List LegendBand → List ℕ
+colors = map (λ (b : LegendBand). b .color)
+
+last-color : (b : LegendBand) (bs : List LegendBand) → lastOr (b .color) (colors bs) ≡ lastOf b bs .color
+unfolding lastOf
+last-color b [] = refl
+last-color b (c ∷ bs) = last-color c bs
 
 -- the edges' colours: those of the first and the last band
 module _ (u : UnmappableColors) where
   edge-of : (b l : LegendBand) (bs : List LegendBand) (w x y z : Bool) → lastOf b bs ≡ l →
-      ruleColor (b ∷ bs) u (cond w lowerEdge (cond x low (cond y upperEdge (cond z high gap))))
+      ruleColor (bandedRuleColors (b ∷ bs) u) (cond w lowerEdge (cond x low (cond y upperEdge (cond z high gap))))
       ≡ cond w (b .color) (cond x (u .low) (cond y (l .color) (cond z (u .high) (u .nodata))))
-  unfolding ruleColor
   edge-of b l bs true x y z e = refl
   edge-of b l bs false true y z e = refl
-  edge-of b l bs false false true z e = ap (λ (c : LegendBand). c .color) e
+  edge-of b l bs false false true z e = last-color b bs ∙ ap (λ (c : LegendBand). c .color) e
   edge-of b l bs false false false true e = refl
   edge-of b l bs false false false false e = refl
 
   abbrev chain : (b l : LegendBand) (v : Float) → ℕ
   chain b l v = cond (within (b .start) v) (b .color) (cond (lt v (b .start)) (u .low) (cond (within (l .end) v) (l .color) (cond (lt (l .end) v) (u .high) (u .nodata))))
 
-  edge-is : (b : LegendBand) (bs : List LegendBand) (v : Float) → ruleColor (b ∷ bs) u (edges b (lastOf b bs) v) ≡ chain b (lastOf b bs) v
+  edge-is : (b : LegendBand) (bs : List LegendBand) (v : Float) → ruleColor (bandedRuleColors (b ∷ bs) u) (edges b (lastOf b bs) v) ≡ chain b (lastOf b bs) v
   unfolding edges
   edge-is b bs v = let l = lastOf b bs in edge-of b l bs (within (b .start) v) (lt v (b .start)) (within (l .end) v) (lt (l .end) v) refl
 
@@ -43,19 +52,22 @@ module _ (u : UnmappableColors) where
   edge-chain b l v = edge-is b (l ∷ []) v
 
   -- all of the bands' colours are those of bs from k on
-  first-color : (all : List LegendBand) (k : ℕ) (bs : List LegendBand) (v : Float) (o : Rule) → ((j : ℕ) → bandColor all (k + j) ≡ bandColor bs j) → ruleColor all u (firstBand k bs v o) ≡ firstColor bs v (ruleColor all u o)
+  first-color : (all : List LegendBand) (k : ℕ) (bs : List LegendBand) (v : Float) (o : Rule)
+      → ((j : ℕ) → getD (colors all) (k + j) 0 ≡ getD (colors bs) j 0)
+      → ruleColor (bandedRuleColors all u) (firstBand k bs v o) ≡ firstColor bs v (ruleColor (bandedRuleColors all u) o)
   unfolding firstBand firstColor
   first-color all k [] v o h = refl
   first-color all k (b ∷ bs) v o h = go (holds b v) (first-color all (suc k) bs v o further)
     where
-      further : (j : ℕ) → bandColor all (suc k + j) ≡ bandColor bs j
-      further j = let e : suc k + j ≡ k + suc j = omega arith in ap (bandColor all) e ∙ (unfold bandColor in h (suc j))
+      further : (j : ℕ) → getD (colors all) (suc k + j) 0 ≡ getD (colors bs) j 0
+      further j = let e : suc k + j ≡ k + suc j = omega arith in ap (λ (n : ℕ). getD (colors all) n 0) e ∙ h (suc j)
 
-      here : bandColor all k ≡ b .color
-      here = let e : k ≡ k + 0 = omega arith in ap (bandColor all) e ∙ (unfold bandColor in h 0)
+      here : getD (colors all) k 0 ≡ b .color
+      here = let e : k ≡ k + 0 = omega arith in ap (λ (n : ℕ). getD (colors all) n 0) e ∙ h 0
 
-      go : (t : Bool) → ruleColor all u (firstBand (suc k) bs v o) ≡ firstColor bs v (ruleColor all u o) → ruleColor all u (cond t (band k) (firstBand (suc k) bs v o)) ≡ cond t (b .color) (firstColor bs v (ruleColor all u o))
-      go true e = unfold ruleColor in here
+      go : (t : Bool) → ruleColor (bandedRuleColors all u) (firstBand (suc k) bs v o) ≡ firstColor bs v (ruleColor (bandedRuleColors all u) o)
+          → ruleColor (bandedRuleColors all u) (cond t (band k) (firstBand (suc k) bs v o)) ≡ cond t (b .color) (firstColor bs v (ruleColor (bandedRuleColors all u) o))
+      go true e = here
       go false e = e
 
   pub plain-form : (b : LegendBand) (bs : List LegendBand) (v : Float) → plainColor (b ∷ bs) u v ≡ firstColor (b ∷ bs) v (edgeColor b (lastOf b bs) u v)
@@ -64,8 +76,8 @@ module _ (u : UnmappableColors) where
       first-color (b ∷ bs) 0 (b ∷ bs) v (edges b (lastOf b bs) v) zero-more
       ∙ ap (firstColor (b ∷ bs) v) (edge-is b bs v ∙ sym (edge-chain b (lastOf b bs) v))
     where
-      zero-more : (j : ℕ) → bandColor (b ∷ bs) (0 + j) ≡ bandColor (b ∷ bs) j
-      zero-more j = let e : 0 + j ≡ j = omega arith in ap (bandColor (b ∷ bs)) e
+      zero-more : (j : ℕ) → getD (colors (b ∷ bs)) (0 + j) 0 ≡ getD (colors (b ∷ bs)) j 0
+      zero-more j = let e : 0 + j ≡ j = omega arith in ap (λ (n : ℕ). getD (colors (b ∷ bs)) n 0) e
 
 -- ---- bands that stand in three arrays
 last-at : (f : ℕ → LegendBand) (n : ℕ) → lastOf (f 0) (tabulate n (λ k. f (suc k))) ≡ f n
@@ -81,7 +93,7 @@ module _ (starts ends : List Float) (colors : List ℕ) where
   bands = packed starts ends colors
 
   pub plain-none : (count : ℕ) (u : UnmappableColors) (v : Float) → count ≡ 0 → plainColor (bands count) u v ≡ u .nodata
-  unfolding packed tabulate plainRule ruleColor
+  unfolding packed tabulate plainRule
   plain-none count u v e = ap (λ (n : ℕ). plainColor (bands n) u v) e
 
   -- the bands from the one at i on

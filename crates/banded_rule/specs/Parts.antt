@@ -6,7 +6,8 @@ use lib.Ieee.{Float}
 use Rattle.colormapper.specs.declared.UnmappableColors.{UnmappableColors}
 use Rattle.banded_columns.specs.declared.LegendBand.{LegendBand}
 use Rattle.banded_columns.specs.Band.{holds}
-use Rattle.banded_rule.specs.PlainRule.{edges, ruleColor}
+use Rattle.colormapper.specs.Rule.{ruleColor}
+use Rattle.banded_rule.specs.PlainRule.{edges, bandedRuleColors}
 
 -- the colour of the first band that holds the value
 unfoldable pub firstColor : List LegendBand → Float → (otherwise : ℕ) → ℕ
@@ -15,4 +16,4 @@ firstColor (b ∷ bs) v otherwise = cond (holds b v) (b .color) (firstColor bs v
 
 -- the colour of a value that no band holds, plainly
 abbrev pub edgeColor : (first last : LegendBand) (u : UnmappableColors) (v : Float) → ℕ
-edgeColor first last u v = ruleColor (first ∷ last ∷ []) u (edges first last v)
+edgeColor first last u v = ruleColor (bandedRuleColors (first ∷ last ∷ []) u) (edges first last v)

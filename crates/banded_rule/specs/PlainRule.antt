@@ -1,16 +1,13 @@
 -- The plain rule of a banded legend (docs/RULES.md, "Banded"): which case a sample falls under, and the case's colour. Definitions only.
-use Prim.Native.Nat.{ℕ, zero, suc}
+use Prim.Native.Nat.{ℕ, suc}
 use mathlib.Core.Bool.{cond}
-use mathlib.Core.List.{List, [], _∷_}
+use mathlib.Core.List.{List, [], _∷_, map}
 use lib.Ieee.{Float, lt}
 use Rattle.colormapper.specs.declared.UnmappableColors.{UnmappableColors}
+use Rattle.colormapper.specs.Rule.{Rule, band, lowerEdge, upperEdge, low, high, gap, RuleColors, ruleColor}
 use Rattle.colormapper.specs.Tolerance.{within}
 use Rattle.banded_columns.specs.declared.LegendBand.{LegendBand}
 use Rattle.banded_columns.specs.Band.{holds, lastOf}
-
-pub data Rule : Type 0 where
-  band : ℕ → Rule
-  lowerEdge upperEdge low high gap : Rule
 
 -- the first band that holds the value, counted from k
 unfoldable pub firstBand : (k : ℕ) (bands : List LegendBand) (v : Float) (otherwise : Rule) → Rule
@@ -29,22 +26,9 @@ unfoldable pub plainRule : List LegendBand → Float → Rule
 plainRule [] v = gap
 plainRule (b ∷ bs) v = firstBand 0 (b ∷ bs) v (edges b (lastOf b bs) v)
 
--- the colour of the band with a number, 0 where there is none
-unfoldable pub bandColor : List LegendBand → ℕ → ℕ
-bandColor [] k = 0
-bandColor (b ∷ bs) zero = b .color
-bandColor (b ∷ bs) (suc k) = bandColor bs k
-
--- the first and the last colour at the edges; nodata between bands, and where there are none
-unfoldable pub ruleColor : List LegendBand → UnmappableColors → Rule → ℕ
-ruleColor bands u (band k) = bandColor bands k
-ruleColor [] u lowerEdge = u .nodata
-ruleColor (b ∷ bs) u lowerEdge = b .color
-ruleColor [] u upperEdge = u .nodata
-ruleColor (b ∷ bs) u upperEdge = lastOf b bs .color
-ruleColor bands u low = u .low
-ruleColor bands u high = u .high
-ruleColor bands u gap = u .nodata
+-- the colours are the bands' and those of the settings
+abbrev pub bandedRuleColors : List LegendBand → UnmappableColors → RuleColors
+bandedRuleColors bands u = record { unmappable = u; ramp = []; bands = map (λ (b : LegendBand). b .color) bands; categories = []; table = [] }
 
 abbrev pub plainColor : List LegendBand → UnmappableColors → Float → ℕ
-plainColor bands u v = ruleColor bands u (plainRule bands v)
+plainColor bands u v = ruleColor (bandedRuleColors bands u) (plainRule bands v)

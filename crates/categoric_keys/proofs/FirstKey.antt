@@ -13,7 +13,7 @@ use lib.ListN.{getD}
 use mir.Syntax.{Width}
 use mir.Val.{SFits, ofZ, toZ}
 use mir.ValLaws.{toZ-ofZ}
-use Rattle.categoric_table.specs.Rule.{category, unknown}
+use Rattle.colormapper.specs.Rule.{category, unknown}
 use Rattle.categoric_keys.specs.Rule.{eqZ, firstKey}
 
 -- ---- the same key

@@ -14,30 +14,31 @@ use mir.ValLaws.{toZ-ofZ}
 use Rattle.cast.specs.declared.Truncated.{Truncated}
 use Rattle.cast.specs.declared.Truncated.the-variants.{Whole, Outside}
 use Rattle.cast.specs.Truncated.{truncated}
-use Rattle.categoric_table.specs.Rule.{Rule, word, category, unknown, tableRule, ruleColor, tableColor, laneColors}
+use Rattle.colormapper.specs.Rule.{Rule, word, category, unknown, ruleColor}
+use Rattle.categoric_table.specs.Rule.{tableRule, categoricRuleColors, tableColor, laneColors}
 use Rattle.categoric_keys.specs.Rule.{eqZ, firstKey, keyRule, plainRule, plainColor, keyColor}
 
 -- a table has no entries, and keys have no words
-table-only : (lookup xs ys : List ℕ) (size nodata : ℕ) (t : Truncated) → ruleColor lookup xs nodata (tableRule size t) ≡ ruleColor lookup ys nodata (tableRule size t)
+table-only : (lookup xs ys : List ℕ) (size nodata : ℕ) (t : Truncated) → ruleColor (categoricRuleColors lookup xs nodata) (tableRule size t) ≡ ruleColor (categoricRuleColors lookup ys nodata) (tableRule size t)
 unfolding tableRule
 table-only lookup xs ys size nodata (Whole (pos n)) = go (ltb n size)
   where
-    go : (b : Bool) → ruleColor lookup xs nodata (cond b (word n) unknown) ≡ ruleColor lookup ys nodata (cond b (word n) unknown)
+    go : (b : Bool) → ruleColor (categoricRuleColors lookup xs nodata) (cond b (word n) unknown) ≡ ruleColor (categoricRuleColors lookup ys nodata) (cond b (word n) unknown)
     go true = refl
     go false = refl
 table-only lookup xs ys size nodata (Whole (negsuc n)) = refl
 table-only lookup xs ys size nodata Outside = refl
 
-entry-or : (xs ys colors : List ℕ) (nodata k : ℕ) (b : Bool) (r : Rule) → ruleColor xs colors nodata r ≡ ruleColor ys colors nodata r → ruleColor xs colors nodata (cond b (category k) r) ≡ ruleColor ys colors nodata (cond b (category k) r)
+entry-or : (xs ys colors : List ℕ) (nodata k : ℕ) (b : Bool) (r : Rule) → ruleColor (categoricRuleColors xs colors nodata) r ≡ ruleColor (categoricRuleColors ys colors nodata) r → ruleColor (categoricRuleColors xs colors nodata) (cond b (category k) r) ≡ ruleColor (categoricRuleColors ys colors nodata) (cond b (category k) r)
 entry-or xs ys colors nodata k true r e = refl
 entry-or xs ys colors nodata k false r e = e
 
-first-only : (xs ys colors : List ℕ) (nodata : ℕ) (keys : List ℤ) (z : ℤ) (k n : ℕ) → ruleColor xs colors nodata (firstKey keys z k n) ≡ ruleColor ys colors nodata (firstKey keys z k n)
+first-only : (xs ys colors : List ℕ) (nodata : ℕ) (keys : List ℤ) (z : ℤ) (k n : ℕ) → ruleColor (categoricRuleColors xs colors nodata) (firstKey keys z k n) ≡ ruleColor (categoricRuleColors ys colors nodata) (firstKey keys z k n)
 unfolding firstKey
 first-only xs ys colors nodata keys z k zero = refl
 first-only xs ys colors nodata keys z k (suc n) = entry-or xs ys colors nodata k (eqZ (getD keys k (pos 0)) z) (firstKey keys z (suc k) n) (first-only xs ys colors nodata keys z (suc k) n)
 
-key-only : (xs ys colors : List ℕ) (nodata : ℕ) (keys : List ℤ) (count : ℕ) (t : Truncated) → ruleColor xs colors nodata (keyRule keys count t) ≡ ruleColor ys colors nodata (keyRule keys count t)
+key-only : (xs ys colors : List ℕ) (nodata : ℕ) (keys : List ℤ) (count : ℕ) (t : Truncated) → ruleColor (categoricRuleColors xs colors nodata) (keyRule keys count t) ≡ ruleColor (categoricRuleColors ys colors nodata) (keyRule keys count t)
 unfolding keyRule
 key-only xs ys colors nodata keys count (Whole z) = first-only xs ys colors nodata keys z 0 count
 key-only xs ys colors nodata keys count Outside = refl
@@ -45,7 +46,7 @@ key-only xs ys colors nodata keys count Outside = refl
 module _ (keys : List ℤ) (colors : List ℕ) (count : ℕ) (lookup : List ℕ) (size nodata : ℕ) where
   pub with-table : 0 < size → (v : Float) → tableColor lookup size nodata v ≡ plainColor keys colors count lookup size nodata v
   unfolding tableColor plainColor plainRule
-  with-table h v = table-only lookup [] colors size nodata (truncated v) ∙ sym (ap (λ (b : Bool). ruleColor lookup colors nodata (cond b (tableRule size (truncated v)) (keyRule keys count (truncated v)))) (lt-ltb 0 size h))
+  with-table h v = table-only lookup [] colors size nodata (truncated v) ∙ sym (ap (λ (b : Bool). ruleColor (categoricRuleColors lookup colors nodata) (cond b (tableRule size (truncated v)) (keyRule keys count (truncated v)))) (lt-ltb 0 size h))
 
   pub without-table : (v : Float) → keyColor keys colors count nodata v ≡ plainColor keys colors count lookup 0 nodata v
   unfolding keyColor plainColor plainRule
@@ -57,13 +58,13 @@ module _ (keys : List ℤ) (colors : List ℕ) (count : ℕ) (lookup : List ℕ)
 
 -- the colour by the keys: of a sample truncated to z, which the code hands on by its bits, and of one outside
 module _ (keys : List ℤ) (colors : List ℕ) (count nodata : ℕ) (v : Float) where
-  pub by-key : (z : ℤ) → SFits w64 z → truncated v ≡ Whole z → {r : ℕ} → r ≡ ruleColor [] colors nodata (firstKey keys (toZ w64 (ofZ w64 z)) 0 count) → r ≡ keyColor keys colors count nodata v
+  pub by-key : (z : ℤ) → SFits w64 z → truncated v ≡ Whole z → {r : ℕ} → r ≡ ruleColor (categoricRuleColors [] colors nodata) (firstKey keys (toZ w64 (ofZ w64 z)) 0 count) → r ≡ keyColor keys colors count nodata v
   unfolding keyColor keyRule
   by-key z f e h =
       h
-      ∙ ap (λ (y : ℤ). ruleColor [] colors nodata (firstKey keys y 0 count)) (toZ-ofZ w64 z f)
-      ∙ sym (ap (λ (t : Truncated). ruleColor [] colors nodata (keyRule keys count t)) e)
+      ∙ ap (λ (y : ℤ). ruleColor (categoricRuleColors [] colors nodata) (firstKey keys y 0 count)) (toZ-ofZ w64 z f)
+      ∙ sym (ap (λ (t : Truncated). ruleColor (categoricRuleColors [] colors nodata) (keyRule keys count t)) e)
 
   pub by-no-key : truncated v ≡ Outside → nodata ≡ keyColor keys colors count nodata v
   unfolding keyColor keyRule
-  by-no-key e = sym (ap (λ (t : Truncated). ruleColor [] colors nodata (keyRule keys count t)) e)
+  by-no-key e = sym (ap (λ (t : Truncated). ruleColor (categoricRuleColors [] colors nodata) (keyRule keys count t)) e)

@@ -9,7 +9,8 @@ use lib.ListN.{getD}
 use Rattle.cast.specs.declared.Truncated.{Truncated}
 use Rattle.cast.specs.declared.Truncated.the-variants.{Whole, Outside}
 use Rattle.cast.specs.Truncated.{truncated}
-use Rattle.categoric_table.specs.Rule.{Rule, category, unknown, tableRule, ruleColor}
+use Rattle.colormapper.specs.Rule.{Rule, category, unknown, ruleColor}
+use Rattle.categoric_table.specs.Rule.{tableRule, categoricRuleColors}
 
 -- two keys are the same whole number
 abbrev pub eqZ : ℤ → ℤ → Bool
@@ -33,8 +34,8 @@ unfoldable pub plainRule : (keys : List ℤ) (count size : ℕ) → Float → Ru
 plainRule keys count size v = cond (ltb 0 size) (tableRule size (truncated v)) (keyRule keys count (truncated v))
 
 unfoldable pub plainColor : (keys : List ℤ) (colors : List ℕ) (count : ℕ) (lookup : List ℕ) (size nodata : ℕ) → Float → ℕ
-plainColor keys colors count lookup size nodata v = ruleColor lookup colors nodata (plainRule keys count size v)
+plainColor keys colors count lookup size nodata v = ruleColor (categoricRuleColors lookup colors nodata) (plainRule keys count size v)
 
 -- by the keys alone, which look at no word
 unfoldable pub keyColor : (keys : List ℤ) (colors : List ℕ) (count nodata : ℕ) → Float → ℕ
-keyColor keys colors count nodata v = ruleColor [] colors nodata (keyRule keys count (truncated v))
+keyColor keys colors count nodata v = ruleColor (categoricRuleColors [] colors nodata) (keyRule keys count (truncated v))

@@ -4,7 +4,8 @@ use cast::Truncated;
 ghost use mathlib.Core.Path.{_≡_};
 ghost use mathlib.Core.List.{[]};
 ghost use Prim.Native.Nat.{_≤_};
-ghost use Rattle.categoric_table.specs.Rule.{ruleColor};
+ghost use Rattle.colormapper.specs.Rule.{ruleColor};
+ghost use Rattle.categoric_table.specs.Rule.{categoricRuleColors};
 ghost use Rattle.categoric_keys.specs.Rule.{firstKey, keyColor};
 ghost use Rattle.categoric_keys.specs.Ascending.{ascends};
 
@@ -28,7 +29,7 @@ pub fn key_color(
 // The colour of the first entry with a key.
 fn scan(keys: &[i64; 256], colors: &[u32; 256], count: usize, nodata: u32, key: i64) -> u32
     requires { ⌜ count ≤ 256 ⌝ }
-    ensures { λ r. ⌜ r ≡ ruleColor [] (now (colors .entry)) nodata (firstKey (now (keys .entry)) key 0 count) ⌝ }
+    ensures { λ r. ⌜ r ≡ ruleColor (categoricRuleColors [] (now (colors .entry)) nodata) (firstKey (now (keys .entry)) key 0 count) ⌝ }
 {
     let mut i: usize = 0;
     while i < count {

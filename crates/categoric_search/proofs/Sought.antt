@@ -16,7 +16,8 @@ use Rattle.cast.specs.declared.Truncated.{Truncated}
 use Rattle.cast.specs.declared.Truncated.the-variants.{Whole, Outside}
 use Rattle.cast.specs.Truncated.{truncated}
 use Rattle.categoric_keys.specs.Ascending.{ascends}
-use Rattle.categoric_table.specs.Rule.{category, unknown, ruleColor}
+use Rattle.colormapper.specs.Rule.{category, unknown, ruleColor}
+use Rattle.categoric_table.specs.Rule.{categoricRuleColors}
 use Rattle.categoric_keys.specs.Rule.{eqZ, firstKey, keyRule, keyColor}
 use Rattle.categoric_keys.proofs.Ascent.{lt→le, lt-le, lt-apart, counted-below}
 use Rattle.categoric_keys.proofs.FirstKey.{eqZ→eq, same-key, found-at, found-nowhere}
@@ -90,12 +91,12 @@ module _ (keys : List ℤ) (count : ℕ) (narrow : List ℤ) (n : Narrow keys co
         (eq-or-lt-of-le l))
         (lt-or-le place j))
 
-    looked-up : (colors : List ℕ) (nodata : ℕ) → cond (eqZ (at place) z) (getD colors place 0) nodata ≡ ruleColor [] colors nodata (firstKey keys z 0 count)
+    looked-up : (colors : List ℕ) (nodata : ℕ) → cond (eqZ (at place) z) (getD colors place 0) nodata ≡ ruleColor (categoricRuleColors [] colors nodata) (firstKey keys z 0 count)
     looked-up colors nodata = go (eqZ (at place) z) (λ t. t) (λ t. t)
       where
-        go : (t : Bool) → (T t → T (eqZ (at place) z)) → (T (not t) → T (not (eqZ (at place) z))) → cond t (getD colors place 0) nodata ≡ ruleColor [] colors nodata (firstKey keys z 0 count)
-        go true holds fails = sym (ap (ruleColor [] colors nodata) (hit (eqZ→eq (at place) z (holds tt))))
-        go false holds fails = sym (ap (ruleColor [] colors nodata) (miss (λ e. T-not (eqZ (at place) z) (fails tt) (subst T (sym (same-key (at place) z e)) tt))))
+        go : (t : Bool) → (T t → T (eqZ (at place) z)) → (T (not t) → T (not (eqZ (at place) z))) → cond t (getD colors place 0) nodata ≡ ruleColor (categoricRuleColors [] colors nodata) (firstKey keys z 0 count)
+        go true holds fails = sym (ap (ruleColor (categoricRuleColors [] colors nodata)) (hit (eqZ→eq (at place) z (holds tt))))
+        go false holds fails = sym (ap (ruleColor (categoricRuleColors [] colors nodata)) (miss (λ e. T-not (eqZ (at place) z) (fails tt) (subst T (sym (same-key (at place) z e)) tt))))
 
   -- ---- a sample outside the range is no key
   far : (z : ℤ) → (T (near z) → ⊥) → firstKey keys z 0 count ≡ unknown
@@ -111,10 +112,10 @@ module _ (keys : List ℤ) (count : ℕ) (narrow : List ℤ) (n : Narrow keys co
   by-rule Outside = far none none-is-not
 
   -- ---- the colour of a sample
-  at-end : (z : ℤ) → T (ltZ z (pos 2147483647)) → (colors : List ℕ) (nodata : ℕ) → colorAtEnd narrow colors nodata z ≡ ruleColor [] colors nodata (firstKey keys z 0 count)
+  at-end : (z : ℤ) → T (ltZ z (pos 2147483647)) → (colors : List ℕ) (nodata : ℕ) → colorAtEnd narrow colors nodata z ≡ ruleColor (categoricRuleColors [] colors nodata) (firstKey keys z 0 count)
   unfolding colorAtEnd
   at-end z low colors nodata = looked-up z low _ (end-narrowed narrow z rising) colors nodata
 
   pub sample-color : (colors : List ℕ) (nodata : ℕ) (v : Float) → searchColor narrow colors nodata v ≡ keyColor keys colors count nodata v
   unfolding keyColor
-  sample-color colors nodata v = at-end (keyOf (truncated v)) (key-below (truncated v)) colors nodata ∙ ap (ruleColor [] colors nodata) (by-rule (truncated v))
+  sample-color colors nodata v = at-end (keyOf (truncated v)) (key-below (truncated v)) colors nodata ∙ ap (ruleColor (categoricRuleColors [] colors nodata)) (by-rule (truncated v))

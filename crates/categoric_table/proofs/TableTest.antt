@@ -22,7 +22,8 @@ use Rattle.cast.specs.Truncated.{cut, truncated}
 use Rattle.cast.proofs.Value.{nothing}
 use Rattle.cast.proofs.Lossless.{exact}
 use Rattle.cast.proofs.Table.{tableEnd, Missed, missed}
-use Rattle.categoric_table.specs.Rule.{Rule, word, unknown, tableRule, ruleColor, tableColor}
+use Rattle.colormapper.specs.Rule.{Rule, word, unknown, ruleColor}
+use Rattle.categoric_table.specs.Rule.{tableRule, categoricRuleColors, tableColor}
 use Rattle.categoric_table.specs.InTable.{minusOne, limit, inTable, raised, kept, arrayEnd, isPlace}
 
 by-cond : (P : Float → Type 0) (b : Bool) (x y : Float) → (T b → P x) → (T (not b) → P y) → P (cond b x y)
@@ -216,9 +217,9 @@ place-lt x p = whole-in x (place-under x p)
 -- ---- a word looked up first and replaced outside
 pub chosen : (lookup : List ℕ) (size nodata : ℕ) → size ≤ 513 → (v : Float) → cond (inTable size v) (getD lookup (floorOf (kept size v)) 0) nodata ≡ tableColor lookup size nodata v
 unfolding tableColor
-chosen lookup size nodata h v = go (inTable size v) ∙ sym (ap (ruleColor lookup [] nodata) (looked size h v))
+chosen lookup size nodata h v = go (inTable size v) ∙ sym (ap (ruleColor (categoricRuleColors lookup [] nodata)) (looked size h v))
   where
-    go : (b : Bool) → cond b (getD lookup (floorOf (kept size v)) 0) nodata ≡ ruleColor lookup [] nodata (cond b (word (floorOf (kept size v))) unknown)
+    go : (b : Bool) → cond b (getD lookup (floorOf (kept size v)) 0) nodata ≡ ruleColor (categoricRuleColors lookup [] nodata) (cond b (word (floorOf (kept size v))) unknown)
     go true = refl
     go false = refl
 

@@ -5,16 +5,10 @@ use mathlib.Core.List.{List, [], map}
 use lib.Dec.{ltb}
 use lib.IntN.{pos, negsuc}
 use lib.Ieee.{Float}
-use lib.ListN.{getD}
+use Rattle.colormapper.specs.Rule.{Rule, word, unknown, RuleColors, ruleColor}
 use Rattle.cast.specs.declared.Truncated.{Truncated}
 use Rattle.cast.specs.declared.Truncated.the-variants.{Whole, Outside}
 use Rattle.cast.specs.Truncated.{truncated}
-
--- the table's word i; entry k; neither
-pub data Rule : Type 0 where
-  word : ℕ → Rule
-  category : ℕ → Rule
-  unknown : Rule
 
 -- with a table of `size` words: the word with the number that the sample is truncated to; outside the table, none
 unfoldable pub tableRule : (size : ℕ) → Truncated → Rule
@@ -22,14 +16,14 @@ tableRule size (Whole (pos n)) = cond (ltb n size) (word n) unknown
 tableRule size (Whole (negsuc n)) = unknown
 tableRule size Outside = unknown
 
-abbrev pub ruleColor : (lookup colors : List ℕ) (nodata : ℕ) → Rule → ℕ
-ruleColor lookup colors nodata (word i) = getD lookup i 0
-ruleColor lookup colors nodata (category k) = getD colors k 0
-ruleColor lookup colors nodata unknown = nodata
+-- the colours are the table's words, the entries' and nodata
+abbrev pub categoricRuleColors : (lookup colors : List ℕ) (nodata : ℕ) → RuleColors
+categoricRuleColors lookup colors nodata =
+    record { unmappable = record { nodata = nodata; low = nodata; high = nodata }; ramp = []; bands = []; categories = colors; table = lookup }
 
 -- by the table alone, which looks at no entry
 unfoldable pub tableColor : (lookup : List ℕ) (size nodata : ℕ) → Float → ℕ
-tableColor lookup size nodata v = ruleColor lookup [] nodata (tableRule size (truncated v))
+tableColor lookup size nodata v = ruleColor (categoricRuleColors lookup [] nodata) (tableRule size (truncated v))
 
 -- a chunk of a legend with a table: each lane is looked up in it. Without one a legend is painted plainly
 abbrev pub laneColors : (lookup : List ℕ) (size nodata : ℕ) → List Float → List ℕ

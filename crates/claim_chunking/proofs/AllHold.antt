@@ -2,12 +2,12 @@
 use lib.Dec.{T}
 use lib.Ieee.{add, sub, lt, le, ofBits, isNan}
 use Rattle.banded_columns.specs.Band.{lastOf}
-use Rattle.banded_rule.specs.PlainRule.{firstBand, edges, plainRule, bandColor, ruleColor}
+use Rattle.banded_rule.specs.PlainRule.{firstBand, edges, plainRule}
 use Rattle.banded_lanes.specs.Edges.{edged}
 use Rattle.banded_lanes.specs.LaneRule.{scanned, laneColors}
 use Rattle.banded_lanes.specs.Sound.{eachBand, eachAfter, eachNext, firstAndLast}
 use Rattle.claim_chunking.specs.Cases.{holds, allHold, cases}
 
 pub all-hold : T (allHold cases)
-unfolding allHold holds cases lastOf firstBand edges plainRule bandColor ruleColor edged scanned laneColors eachBand eachAfter eachNext firstAndLast add sub lt le isNan ofBits
+unfolding allHold holds cases lastOf firstBand edges plainRule edged scanned laneColors eachBand eachAfter eachNext firstAndLast add sub lt le isNan ofBits
 all-hold = tt

@@ -20,6 +20,8 @@ use Rattle.cast.specs.Truncated.{truncated}
 use Rattle.cast.specs.declared.Nodata.{Nodata}
 use Rattle.cast.specs.declared.Nodata.the-variants.{Value, Absent}
 use Rattle.colormapper.specs.declared.UnmappableColors.{UnmappableColors}
+use Rattle.colormapper.specs.Rule.{ruleColor}
+use Rattle.colormapper.specs.Rule as rule
 use Rattle.colormapper.specs.Tolerance.{E, within}
 use Rattle.colormapper.specs.Unmappable.{isNodata, unmappable}
 use Rattle.interpolate.specs.Fraction.{fraction, plainFraction}
@@ -140,13 +142,13 @@ module _ (s t : Bool) where
   module _ (cmap : List ℕ) (start end : Float) (u : UnmappableColors) where
     pub lane-zeros : linear.laneColor cmap start end u x ≡ linear.laneColor cmap start end u y
     unfolding linear.laneColor linear.laneRule
-    lane-zeros = ap (linear.ruleColor cmap u) (range-zeros start end linear.low linear.high (ap (λ (f : Float). linear.looked-up (laneEntry f)) (fraction-zeros start end)))
+    lane-zeros = ap (ruleColor (linear.linearRuleColors cmap u)) (range-zeros start end rule.low rule.high (ap (λ (f : Float). linear.looked (laneEntry f)) (fraction-zeros start end)))
 
     pub plain-zeros : linear.plainColor cmap start end u x ≡ linear.plainColor cmap start end u y
     unfolding linear.plainColor linear.plainRule plainFraction
     plain-zeros =
-        ap (linear.ruleColor cmap u)
-        (range-zeros start end linear.low linear.high (ap (λ (f : Float). linear.looked-up (plainEntry (cond (lt end start) nought f))) (fraction-zeros start end)))
+        ap (ruleColor (linear.linearRuleColors cmap u))
+        (range-zeros start end rule.low rule.high (ap (λ (f : Float). linear.looked (plainEntry (cond (lt end start) nought f))) (fraction-zeros start end)))
 
   -- banded
   holds-zeros : (b : LegendBand) → holds b x ≡ holds b y
@@ -183,4 +185,4 @@ pub categoric-zeros : (s t : Bool) (keys : List ℤ) (colors : List ℕ) (count 
     → categories.plainColor keys colors count lookup size nodata (signedZero s) ≡ categories.plainColor keys colors count lookup size nodata (signedZero t)
 unfolding categories.plainColor categories.plainRule
 categoric-zeros s t keys colors count lookup size nodata =
-    ap (λ z. words.ruleColor lookup colors nodata (cond (ltb 0 size) (words.tableRule size z) (categories.keyRule keys count z))) (truncated-zeros s t)
+    ap (λ z. ruleColor (words.categoricRuleColors lookup colors nodata) (cond (ltb 0 size) (words.tableRule size z) (categories.keyRule keys count z))) (truncated-zeros s t)

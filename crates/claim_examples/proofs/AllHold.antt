@@ -12,7 +12,7 @@ use Rattle.colormap.specs.Positions.{step, position, rampColors}
 use Rattle.colormapper.specs.Unmappable.{unmappable}
 use Rattle.linear_rule.specs.Rule as linear
 use Rattle.banded_columns.specs.Band.{lastOf}
-use Rattle.banded_rule.specs.PlainRule.{firstBand, edges, plainRule, bandColor, ruleColor}
+use Rattle.banded_rule.specs.PlainRule.{firstBand, edges, plainRule}
 use Rattle.banded_lanes.specs.Edges.{edged}
 use Rattle.banded_lanes.specs.LaneRule.{scanned, laneColors}
 use Rattle.banded_lists.specs.EqualBands.{bandStep, bandStart, equalBands, equalRefusal}
@@ -27,5 +27,5 @@ use Rattle.catgegoric.specs.Made.{recordOf, madeUnless, manyRefusal, valuesRefu
 use Rattle.claim_examples.specs.Examples.{gray, G, categoryOf, asked, examples, allHold}
 
 pub all-hold : T (allHold examples)
-unfolding allHold examples asked gray G categoryOf tabulate padded hexColor hexForm hexDigit twoDigits hexPair pairAt alphaOf ofPairs truncated plainIndex laneIndex fraction plainFraction plainEntry laneEntry step position rampColors unmappable linear.plainRule linear.laneRule linear.plainColor linear.laneColor lastOf firstBand edges plainRule bandColor ruleColor edged scanned laneColors bandedOf beside bandStep bandStart equalBands equalRefusal withEqualBands words.tableRule rule.firstKey rule.keyRule rule.plainRule rule.plainColor words.tableColor rule.keyColor inserted firstOf foremost tabled tableSize written table outsideFrom recordOf madeUnless manyRefusal valuesRefusal add sub mul div lt le eq isNan ofInt ofBits
+unfolding allHold examples asked gray G categoryOf tabulate padded hexColor hexForm hexDigit twoDigits hexPair pairAt alphaOf ofPairs truncated plainIndex laneIndex fraction plainFraction plainEntry laneEntry step position rampColors unmappable linear.plainRule linear.laneRule linear.plainColor linear.laneColor lastOf firstBand edges plainRule edged scanned laneColors bandedOf beside bandStep bandStart equalBands equalRefusal withEqualBands words.tableRule rule.firstKey rule.keyRule rule.plainRule rule.plainColor words.tableColor rule.keyColor inserted firstOf foremost tabled tableSize written table outsideFrom recordOf madeUnless manyRefusal valuesRefusal add sub mul div lt le eq isNan ofInt ofBits
 all-hold = tt

@@ -1,3 +1,4 @@
+pub mod Rule
 pub mod Settings
 pub mod Unmappable
 pub mod Tolerance

@@ -1,3 +1,4 @@
 -- The laws that other crates cite.
 pub mod Stored
 pub mod AnyKind
+pub mod SampleRule

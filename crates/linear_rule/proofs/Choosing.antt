@@ -6,22 +6,28 @@ use Prim.Native.Nat.{ℕ}
 use lib.Ieee.{Float, binary32, add, sub, lt}
 use Rattle.interpolate.specs.Fraction.{fraction, plainFraction}
 use Rattle.lookup.specs.declared.Entry.{Entry}
+use Rattle.lookup.specs.declared.Entry.the-variants.{At, Outside}
 use Rattle.lookup.specs.Entries.{plainEntry, laneEntry, entryColor}
 use Rattle.colormapper.specs.declared.UnmappableColors.{UnmappableColors}
 use Rattle.colormapper.specs.Tolerance.{E}
-use Rattle.linear_rule.specs.Rule.{low, high, looked-up, byRange, ranged, plainRule, laneRule, ruleColor, plainColor, laneColor}
+use Rattle.colormapper.specs.Rule.{low, high, ruleColor}
+use Rattle.linear_rule.specs.Rule.{byRange, looked, ranged, plainRule, laneRule, linearRuleColors, plainColor, laneColor}
 
 module _ (cmap : List ℕ) (start end : Float) (u : UnmappableColors) (v : Float) where
-  chosen : (entry : Entry) → byRange start end v (u .low) (u .high) (entryColor cmap entry) ≡ ruleColor cmap u (ranged start end v entry)
+  chosen : (entry : Entry) → byRange start end v (u .low) (u .high) (entryColor cmap entry) ≡ ruleColor (linearRuleColors cmap u) (ranged start end v entry)
   chosen entry = go (lt v (sub binary32 start E)) (lt (add binary32 end E) v)
     where
-      go : (b a : Bool) → cond b (u .low) (cond a (u .high) (entryColor cmap entry)) ≡ ruleColor cmap u (cond b low (cond a high (looked-up entry)))
+      found : (entry : Entry) → entryColor cmap entry ≡ ruleColor (linearRuleColors cmap u) (looked entry)
+      found (At k) = refl
+      found Outside = refl
+
+      go : (b a : Bool) → cond b (u .low) (cond a (u .high) (entryColor cmap entry)) ≡ ruleColor (linearRuleColors cmap u) (cond b low (cond a high (looked entry)))
       go true a = refl
       go false true = refl
-      go false false = refl
+      go false false = found entry
 
   -- in phases: the fraction f, the colour that is looked up for it, and the range
-  phases : (rule : Float → Entry) {f g : Float} {color r : ℕ} → f ≡ g → color ≡ entryColor cmap (rule f) → r ≡ byRange start end v (u .low) (u .high) color → r ≡ ruleColor cmap u (ranged start end v (rule g))
+  phases : (rule : Float → Entry) {f g : Float} {color r : ℕ} → f ≡ g → color ≡ entryColor cmap (rule f) → r ≡ byRange start end v (u .low) (u .high) color → r ≡ ruleColor (linearRuleColors cmap u) (ranged start end v (rule g))
   phases rule {f} {g} p q s = s ∙ ap (byRange start end v (u .low) (u .high)) (q ∙ ap (λ x. entryColor cmap (rule x)) p) ∙ chosen (rule g)
 
   module _ {f : Float} {color r : ℕ} where

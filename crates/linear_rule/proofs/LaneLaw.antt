@@ -19,7 +19,8 @@ use Rattle.lookup.specs.declared.Entry.the-variants.{At, Outside}
 use Rattle.lookup.specs.Entries.{plainEntry, laneEntry}
 use Rattle.colormapper.specs.declared.UnmappableColors.{UnmappableColors}
 use Rattle.colormapper.specs.Tolerance.{E}
-use Rattle.linear_rule.specs.Rule.{looked-up, ranged, plainRule, laneRule, ruleColor, plainColor, laneColor}
+use Rattle.colormapper.specs.Rule.{rampEntry, ruleColor}
+use Rattle.linear_rule.specs.Rule.{looked, ranged, plainRule, laneRule, linearRuleColors, plainColor, laneColor}
 use Rattle.linear_rule.specs.Odd.{OddFraction}
 use Rattle.linear_rule.proofs.Inside.{inside}
 
@@ -63,21 +64,23 @@ module _ (start end v : Float) (ordered : lt end start ≡ false) where
 
   pub color-same : (cmap : List ℕ) (u : UnmappableColors) → toBits binary32 (fraction start end v) ≢ 0x3B00_8080 → laneColor cmap start end u v ≡ plainColor cmap start end u v
   unfolding laneColor plainColor
-  color-same cmap u n = ap (ruleColor cmap u) (rule-same n)
+  color-same cmap u n = ap (ruleColor (linearRuleColors cmap u)) (rule-same n)
 
   module _ (bits : toBits binary32 (fraction start end v) ≡ 0x3B00_8080) (within : (lt v (sub binary32 start E) ≡ false) × (lt (add binary32 end E) v ≡ false)) where
-    looked : (entry : Entry) → ranged start end v entry ≡ looked-up entry
-    looked entry = rw (within .0, within .1)
+    in-range : (entry : Entry) → ranged start end v entry ≡ looked entry
+    in-range entry = rw (within .0, within .1)
 
-    pub rule-differs : (laneRule start end v ≡ looked-up (At 1)) × (plainRule start end v ≡ looked-up (At 0))
+    pub rule-differs : (laneRule start end v ≡ rampEntry 1) × (plainRule start end v ≡ rampEntry 0)
     unfolding laneRule plainRule
     rule-differs =
-        let d = entry-differs (fraction start end v) (fraction-fits start end v) bits in
-        (looked (laneEntry (fraction start end v)) ∙ ap looked-up (d .0), looked (plainEntry (plainFraction start end v)) ∙ ap looked-up (ap plainEntry (fraction-same start end v ordered) ∙ d .1))
+        let d = entry-differs (fraction start end v) (fraction-fits start end v) bits in (
+          in-range (laneEntry (fraction start end v)) ∙ ap looked (d .0),
+          in-range (plainEntry (plainFraction start end v)) ∙ ap looked (ap plainEntry (fraction-same start end v ordered) ∙ d .1),
+        )
 
     pub color-differs : (cmap : List ℕ) (u : UnmappableColors) → (laneColor cmap start end u v ≡ getD cmap 1 0) × (plainColor cmap start end u v ≡ getD cmap 0 0)
     unfolding laneColor plainColor
-    color-differs cmap u = (ap (ruleColor cmap u) (rule-differs .0), ap (ruleColor cmap u) (rule-differs .1))
+    color-differs cmap u = (ap (ruleColor (linearRuleColors cmap u)) (rule-differs .0), ap (ruleColor (linearRuleColors cmap u)) (rule-differs .1))
 
   -- THE LAW: the two colours are one, but at that fraction
   pub lane-law : (cmap : List ℕ) (u : UnmappableColors) → (laneColor cmap start end u v ≡ plainColor cmap start end u v) ⊎ OddFraction start end v

@@ -1,3 +1,4 @@
 pub mod Tabulate
 pub mod Padded
 pub mod Lanes
+pub mod Outer
