@@ -13,7 +13,9 @@ pub fn page(repository: &Path) -> String {
          which the prover refuses. `cargo run --release -p pages`, in `rust/`, writes this page from the crates; `./test` \
          compares the two. docs/PROMISES.md says what is promised of the whole. A path is below `crates/`.\n",
     );
-    for line in read(&repository.join("crates.txt")).lines().skip(1) {
+    let crates = read(&repository.join("crates.txt"));
+    page += &rules(repository, &crates);
+    for line in crates.lines().skip(1) {
         if let Some(part) = line.strip_prefix("# ") {
             write!(page, "\n## {}\n", part.trim_end_matches('.')).expect("a string takes it");
         } else if let Some((name, _)) = line.split_once(':') {
@@ -21,6 +23,33 @@ pub fn page(repository: &Path) -> String {
         }
     }
     page
+}
+
+/// The definitions that write a heading of docs/RULES.md down: the files of `specs/` whose heads name it.
+fn rules(repository: &Path, crates: &str) -> String {
+    let mut files = Vec::new();
+    for name in crates
+        .lines()
+        .filter_map(|line| line.split_once(':'))
+        .map(|(name, _)| name)
+        .filter(|name| !name.starts_with('#'))
+    {
+        let folder = repository.join("crates").join(name).join("specs");
+        for file in names(&folder).iter().filter(|file| file.ends_with(".antt") && *file != "Lib.antt") {
+            files.push((format!("{name}/specs/{file}"), head(&read(&folder.join(file)), "--").join(" ")));
+        }
+    }
+    let mut table = String::from(
+        "\n## Definitions by the rule that they write down\n\nThe files of `specs/` whose heads name a heading of docs/RULES.md.\n\n\
+         | Heading | Definitions |\n|---|---|\n",
+    );
+    for heading in read(&repository.join("docs/RULES.md")).lines().filter_map(|line| line.strip_prefix("## ")) {
+        let quoted = format!("\"{heading}\"");
+        let cited: Vec<String> =
+            files.iter().filter(|(_, head)| head.contains(&quoted)).map(|(file, _)| format!("`{file}`")).collect();
+        writeln!(table, "| {heading} | {} |", cited.join(", ")).expect("a string takes it");
+    }
+    table
 }
 
 fn section(repository: &Path, name: &str) -> String {
@@ -65,10 +94,14 @@ fn files(folder: &Path) -> Vec<String> {
     files
 }
 
-/// The comment at the head of a file.
+/// The first paragraph of the comment at the head of a file.
 fn comment(source: &str) -> String {
-    let lines: Vec<&str> = source.lines().map_while(|line| line.strip_prefix("//")).map(str::trim).collect();
-    lines.split(|line| line.is_empty()).next().unwrap_or_default().join(" ")
+    head(source, "//").split(|line| line.is_empty()).next().unwrap_or_default().join(" ")
+}
+
+/// The lines of the comment at the head of a file.
+fn head<'a>(source: &'a str, mark: &str) -> Vec<&'a str> {
+    source.lines().map_while(|line| line.strip_prefix(mark)).map(str::trim).collect()
 }
 
 /// The public functions of a file, with what their `ensures` cite of some crate's `specs/`.
