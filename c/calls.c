@@ -428,7 +428,7 @@ static Buffers painted(const Case *test, const uint32_t *colors, size_t count, s
         for (int i = 0; i < PERIOD; i++) {                                                                             \
             const type##_sample value = (type##_sample)SAMPLES[i];                                                     \
             const LegendColor color = CALL(legend_color_for_##type)(&test->legend, value, given, 12);                  \
-            const LegendColor own = CALL(legend_lent_color_for_##type)(PARTS(&test->legend), value, given, 12);        \
+            const LegendColor own = CALL(legend_view_color_for_##type)(PARTS(&test->legend), value, given, 12);        \
             EXPECT(is_done(color.answer) && color.color == colors[i]);                                                 \
             EXPECT(is_done(own.answer) && own.color == colors[i]);                                                     \
         }                                                                                                              \
@@ -441,7 +441,7 @@ static Buffers painted(const Case *test, const uint32_t *colors, size_t count, s
         EXPECT(is_done(CALL(legend_paint_##type)(&test->legend, src, count, given, 12, one.out, count)));              \
         EXPECT(are_same(&one, &expected));                                                                             \
         EXPECT(is_done(                                                                                                \
-            CALL(legend_lent_paint_##type)(PARTS(&test->legend), src, count, given, 12, other.out, count)));           \
+            CALL(legend_view_paint_##type)(PARTS(&test->legend), src, count, given, 12, other.out, count)));           \
         EXPECT(are_same(&other, &expected));                                                                           \
     }                                                                                                                  \
                                                                                                                        \
@@ -452,7 +452,7 @@ static Buffers painted(const Case *test, const uint32_t *colors, size_t count, s
         EXPECT(is_done(CALL(legend_paint_lanes_##type)(&test->legend, lanes, src, count, given, 12, one.out,           \
                                                        count, one.scratch, SCRATCH)));                                 \
         EXPECT(are_same(&one, &expected));                                                                             \
-        EXPECT(is_done(CALL(legend_lent_paint_lanes_##type)(PARTS(&test->legend), lanes, src, count, given, 12,        \
+        EXPECT(is_done(CALL(legend_view_paint_lanes_##type)(PARTS(&test->legend), lanes, src, count, given, 12,        \
                                                             other.out, count, other.scratch, SCRATCH)));               \
         EXPECT(are_same(&other, &expected));                                                                           \
     }                                                                                                                  \
@@ -489,12 +489,12 @@ static Buffers painted(const Case *test, const uint32_t *colors, size_t count, s
         EXPECT(is_refused(CALL(legend_paint_##type)(legend, NULL, 0, 0, 0, lent.out, 1), LEGEND_OUTPUT_LENGTH_DIFFERS));\
         EXPECT(is_refused(CALL(legend_paint_##type)(legend, src, 1, 0, 0, NULL, 0), LEGEND_OUTPUT_LENGTH_DIFFERS));    \
         EXPECT(is_done(CALL_WITH_NULL(legend_paint_##type)(legend, NULL, 0, 0, 0, NULL, 0)));                          \
-        EXPECT(is_done(CALL_WITH_NULL(legend_lent_paint_##type)(PARTS(legend), NULL, 0, 0, 0, NULL, 0)));              \
+        EXPECT(is_done(CALL_WITH_NULL(legend_view_paint_##type)(PARTS(legend), NULL, 0, 0, 0, NULL, 0)));              \
         answer = CALL(legend_paint_lanes_##type)(legend, 8, NULL, 0, 0, 0, NULL, 0, lent.scratch, SCRATCH);            \
         EXPECT(is_done(answer) && are_same(&lent, &before));                                                           \
         answer = CALL_WITH_NULL(legend_paint_lanes_##type)(legend, 8, NULL, 0, 0, 0, NULL, 0, NULL, 0);                \
         EXPECT(is_refused(answer, LEGEND_SCRATCH_TOO_SHORT));                                                          \
-        answer = CALL_WITH_NULL(legend_lent_paint_lanes_##type)(PARTS(legend), 8, NULL, 0, 0, 0, NULL, 0, NULL, 0);    \
+        answer = CALL_WITH_NULL(legend_view_paint_lanes_##type)(PARTS(legend), 8, NULL, 0, 0, 0, NULL, 0, NULL, 0);    \
         EXPECT(is_refused(answer, LEGEND_SCRATCH_TOO_SHORT));                                                          \
     }                                                                                                                  \
                                                                                                                        \
@@ -530,14 +530,14 @@ USES(f32)
 USES(u8)
 USES(i16)
 
-/* The head of a legend, field by field. */
+/* The view of a legend, field by field. */
 static void heads(const LegendRecord *legend) {
-    const LegendHead head = CALL(legend_view)(legend);
-    EXPECT(head.kind == legend->kind && head.start == 10.0f && head.end == 20.0f);
-    EXPECT(head.count == 2 && head.lookup_count == legend->categoric.lookup_count);
-    EXPECT(head.settings.nodata_color == NODATA && head.settings.low_color == LOW);
-    EXPECT(head.settings.high_color == HIGH && head.settings.has_low == 1 && head.settings.has_high == 1);
-    EXPECT(head.settings.zero_is_nodata == 0);
+    const LegendView view = CALL(legend_view)(legend);
+    EXPECT(view.kind == legend->kind && view.start == 10.0f && view.end == 20.0f);
+    EXPECT(view.count == 2 && view.lookup_count == legend->categoric.lookup_count);
+    EXPECT(view.settings.nodata_color == NODATA && view.settings.low_color == LOW);
+    EXPECT(view.settings.high_color == HIGH && view.settings.has_low == 1 && view.settings.has_high == 1);
+    EXPECT(view.settings.zero_is_nodata == 0);
 }
 
 /* The range of values and the list of colours: the header's functions and the library's own calls. */

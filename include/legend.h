@@ -244,92 +244,92 @@ LegendMade legend_create_categoric_for_value_range_from_ramp(const uint32_t ramp
  * by 16 for a stored count; then as its line says. `nodata` counts where `nodata_given` is 1.
  *
  * Each takes a pointer to the legend. For painting and the colour of a sample its ramp, its keys with their colours and
- * its table are lent to the library's own calls, the legend_lent_ ones below, and are not copied; its bands are. The
+ * its table are lent to the library's own calls, the legend_view_ ones below, and are not copied; its bands are. The
  * legend_record_ ones are handed a copy of the whole. */
 
 /* What is neither an array of a legend nor its bands. */
-typedef struct LegendHead {
+typedef struct LegendView {
     uint32_t kind;
     LegendSettings settings;
     float start; /* linear */
     float end;
     size_t count; /* categoric */
     size_t lookup_count;
-} LegendHead;
+} LegendView;
 
-static inline LegendHead legend_head(const LegendRecord *legend) {
-    LegendHead head;
-    head.kind = legend->kind;
-    head.settings = legend->settings;
-    head.start = legend->linear.start;
-    head.end = legend->linear.end;
-    head.count = legend->categoric.count;
-    head.lookup_count = legend->categoric.lookup_count;
-    return head;
+static inline LegendView legend_view(const LegendRecord *legend) {
+    LegendView view;
+    view.kind = legend->kind;
+    view.settings = legend->settings;
+    view.start = legend->linear.start;
+    view.end = legend->linear.end;
+    view.count = legend->categoric.count;
+    view.lookup_count = legend->categoric.lookup_count;
+    return view;
 }
 
-/* A legend as the legend_lent_ calls take it: their first six arguments, each of which reads the pointer given. */
-#define LEGEND_LENT(legend)                                                                             \
-    legend_head(legend), (legend)->banded, (legend)->linear.cmap, (legend)->categoric.keys,             \
+/* A legend as the legend_view_ calls take it: their first six arguments, each of which reads the pointer given. */
+#define LEGEND_VIEW(legend)                                                                             \
+    legend_view(legend), (legend)->banded, (legend)->linear.cmap, (legend)->categoric.keys,             \
         (legend)->categoric.colors, (legend)->categoric.lookup
 
 /* The colour of one sample, by the rule of plain painting. */
-LegendColor legend_lent_color_for_f32(
-    LegendHead head, LegendBanded banded, const uint32_t cmap[256], const int64_t keys[256],
+LegendColor legend_view_color_for_f32(
+    LegendView view, LegendBanded banded, const uint32_t cmap[256], const int64_t keys[256],
     const uint32_t colors[256], const uint32_t lookup[513], float value,
     uint32_t nodata_given, float nodata);
-LegendColor legend_lent_color_for_u8(
-    LegendHead head, LegendBanded banded, const uint32_t cmap[256], const int64_t keys[256],
+LegendColor legend_view_color_for_u8(
+    LegendView view, LegendBanded banded, const uint32_t cmap[256], const int64_t keys[256],
     const uint32_t colors[256], const uint32_t lookup[513], uint8_t value,
     uint32_t nodata_given, uint8_t nodata);
-LegendColor legend_lent_color_for_i16(
-    LegendHead head, LegendBanded banded, const uint32_t cmap[256], const int64_t keys[256],
+LegendColor legend_view_color_for_i16(
+    LegendView view, LegendBanded banded, const uint32_t cmap[256], const int64_t keys[256],
     const uint32_t colors[256], const uint32_t lookup[513], int16_t value,
     uint32_t nodata_given, int16_t nodata);
 
 static inline LegendColor legend_color_for_f32(const LegendRecord *legend, float value, uint32_t nodata_given,
                                                float nodata) {
-    return legend_lent_color_for_f32(LEGEND_LENT(legend), value, nodata_given, nodata);
+    return legend_view_color_for_f32(LEGEND_VIEW(legend), value, nodata_given, nodata);
 }
 
 static inline LegendColor legend_color_for_u8(const LegendRecord *legend, uint8_t value, uint32_t nodata_given,
                                               uint8_t nodata) {
-    return legend_lent_color_for_u8(LEGEND_LENT(legend), value, nodata_given, nodata);
+    return legend_view_color_for_u8(LEGEND_VIEW(legend), value, nodata_given, nodata);
 }
 
 static inline LegendColor legend_color_for_i16(const LegendRecord *legend, int16_t value, uint32_t nodata_given,
                                                int16_t nodata) {
-    return legend_lent_color_for_i16(LEGEND_LENT(legend), value, nodata_given, nodata);
+    return legend_view_color_for_i16(LEGEND_VIEW(legend), value, nodata_given, nodata);
 }
 
 /* Plain painting: out[i] is the colour of src[i]. Beside a refusal out is as it was. Refused: 13. out overlaps neither
  * src nor the legend. */
-LegendAnswer legend_lent_paint_f32(
-    LegendHead head, LegendBanded banded, const uint32_t cmap[256], const int64_t keys[256],
+LegendAnswer legend_view_paint_f32(
+    LegendView view, LegendBanded banded, const uint32_t cmap[256], const int64_t keys[256],
     const uint32_t colors[256], const uint32_t lookup[513], const float *src,
     size_t src_length, uint32_t nodata_given, float nodata, uint32_t *out, size_t out_length);
-LegendAnswer legend_lent_paint_u8(
-    LegendHead head, LegendBanded banded, const uint32_t cmap[256], const int64_t keys[256],
+LegendAnswer legend_view_paint_u8(
+    LegendView view, LegendBanded banded, const uint32_t cmap[256], const int64_t keys[256],
     const uint32_t colors[256], const uint32_t lookup[513], const uint8_t *src,
     size_t src_length, uint32_t nodata_given, uint8_t nodata, uint32_t *out, size_t out_length);
-LegendAnswer legend_lent_paint_i16(
-    LegendHead head, LegendBanded banded, const uint32_t cmap[256], const int64_t keys[256],
+LegendAnswer legend_view_paint_i16(
+    LegendView view, LegendBanded banded, const uint32_t cmap[256], const int64_t keys[256],
     const uint32_t colors[256], const uint32_t lookup[513], const int16_t *src,
     size_t src_length, uint32_t nodata_given, int16_t nodata, uint32_t *out, size_t out_length);
 
 static inline LegendAnswer legend_paint_f32(const LegendRecord *legend, const float *src, size_t src_length,
                                             uint32_t nodata_given, float nodata, uint32_t *out, size_t out_length) {
-    return legend_lent_paint_f32(LEGEND_LENT(legend), src, src_length, nodata_given, nodata, out, out_length);
+    return legend_view_paint_f32(LEGEND_VIEW(legend), src, src_length, nodata_given, nodata, out, out_length);
 }
 
 static inline LegendAnswer legend_paint_u8(const LegendRecord *legend, const uint8_t *src, size_t src_length,
                                            uint32_t nodata_given, uint8_t nodata, uint32_t *out, size_t out_length) {
-    return legend_lent_paint_u8(LEGEND_LENT(legend), src, src_length, nodata_given, nodata, out, out_length);
+    return legend_view_paint_u8(LEGEND_VIEW(legend), src, src_length, nodata_given, nodata, out, out_length);
 }
 
 static inline LegendAnswer legend_paint_i16(const LegendRecord *legend, const int16_t *src, size_t src_length,
                                             uint32_t nodata_given, int16_t nodata, uint32_t *out, size_t out_length) {
-    return legend_lent_paint_i16(LEGEND_LENT(legend), src, src_length, nodata_given, nodata, out, out_length);
+    return legend_view_paint_i16(LEGEND_VIEW(legend), src, src_length, nodata_given, nodata, out, out_length);
 }
 
 /* Painting in 4, 8 or 16 lanes: whole chunks by the rule of lanes, what is left of the raster plainly. A categoric legend
@@ -337,18 +337,18 @@ static inline LegendAnswer legend_paint_i16(const LegendRecord *legend, const in
  * colours of the last whole chunk; the others are as they were, and so are all where there was no whole chunk, or where a
  * categoric legend has no table. Beside a refusal out and scratch are as they were. Refused: 14, 15, 13. out and scratch
  * overlap neither each other, nor src, nor the legend. */
-LegendAnswer legend_lent_paint_lanes_f32(
-    LegendHead head, LegendBanded banded, const uint32_t cmap[256], const int64_t keys[256],
+LegendAnswer legend_view_paint_lanes_f32(
+    LegendView view, LegendBanded banded, const uint32_t cmap[256], const int64_t keys[256],
     const uint32_t colors[256], const uint32_t lookup[513], size_t lanes,
     const float *src, size_t src_length, uint32_t nodata_given, float nodata, uint32_t *out, size_t out_length,
     uint32_t *scratch, size_t scratch_length);
-LegendAnswer legend_lent_paint_lanes_u8(
-    LegendHead head, LegendBanded banded, const uint32_t cmap[256], const int64_t keys[256],
+LegendAnswer legend_view_paint_lanes_u8(
+    LegendView view, LegendBanded banded, const uint32_t cmap[256], const int64_t keys[256],
     const uint32_t colors[256], const uint32_t lookup[513], size_t lanes,
     const uint8_t *src, size_t src_length, uint32_t nodata_given, uint8_t nodata, uint32_t *out, size_t out_length,
     uint32_t *scratch, size_t scratch_length);
-LegendAnswer legend_lent_paint_lanes_i16(
-    LegendHead head, LegendBanded banded, const uint32_t cmap[256], const int64_t keys[256],
+LegendAnswer legend_view_paint_lanes_i16(
+    LegendView view, LegendBanded banded, const uint32_t cmap[256], const int64_t keys[256],
     const uint32_t colors[256], const uint32_t lookup[513], size_t lanes,
     const int16_t *src, size_t src_length, uint32_t nodata_given, int16_t nodata, uint32_t *out, size_t out_length,
     uint32_t *scratch, size_t scratch_length);
@@ -357,7 +357,7 @@ static inline LegendAnswer legend_paint_lanes_f32(const LegendRecord *legend, si
                                                    size_t src_length, uint32_t nodata_given, float nodata,
                                                    uint32_t *out, size_t out_length, uint32_t *scratch,
                                                    size_t scratch_length) {
-    return legend_lent_paint_lanes_f32(LEGEND_LENT(legend), lanes, src, src_length, nodata_given, nodata, out,
+    return legend_view_paint_lanes_f32(LEGEND_VIEW(legend), lanes, src, src_length, nodata_given, nodata, out,
                                          out_length, scratch, scratch_length);
 }
 
@@ -365,7 +365,7 @@ static inline LegendAnswer legend_paint_lanes_u8(const LegendRecord *legend, siz
                                                    size_t src_length, uint32_t nodata_given, uint8_t nodata,
                                                    uint32_t *out, size_t out_length, uint32_t *scratch,
                                                    size_t scratch_length) {
-    return legend_lent_paint_lanes_u8(LEGEND_LENT(legend), lanes, src, src_length, nodata_given, nodata, out,
+    return legend_view_paint_lanes_u8(LEGEND_VIEW(legend), lanes, src, src_length, nodata_given, nodata, out,
                                          out_length, scratch, scratch_length);
 }
 
@@ -373,7 +373,7 @@ static inline LegendAnswer legend_paint_lanes_i16(const LegendRecord *legend, si
                                                    size_t src_length, uint32_t nodata_given, int16_t nodata,
                                                    uint32_t *out, size_t out_length, uint32_t *scratch,
                                                    size_t scratch_length) {
-    return legend_lent_paint_lanes_i16(LEGEND_LENT(legend), lanes, src, src_length, nodata_given, nodata, out,
+    return legend_view_paint_lanes_i16(LEGEND_VIEW(legend), lanes, src, src_length, nodata_given, nodata, out,
                                          out_length, scratch, scratch_length);
 }
 

@@ -11,7 +11,7 @@ use Rattle.refusal.specs.declared.Answer.the-variants.{Done, Refused}
 use Rattle.refusal.specs.declared.Refusal.{Refusal}
 use Rattle.colormap.specs.Positions.{rampColors}
 use Rattle.banded_columns.specs.declared.LegendBand.{LegendBand}
-use Rattle.banded_lists.specs.Places.{placesOf}
+use Rattle.banded_lists.specs.Padded.{paddedBands}
 use Rattle.banded_lists.specs.EqualBands.{equalBands, equalRefusal}
 use Rattle.banded_lists.proofs.Equal.{equal-same, equal-length, equal-padded}
 use Rattle.banded.specs.declared.Banded.{Banded}
@@ -34,9 +34,9 @@ module _ (count : ℕ) (start end : Float) (colors : List ℕ) {given : ℕ} {a 
   unfolding withEqualBands
   equal-refused f h = refused (bandedOf (equalBands count start end colors)) answered f h
 
-  pub equal-made : {array : List ℕ} {r : List LegendBand} → a ≡ Done → array ≡ padded 0 256 colors → r ≡ placesOf (equalBands count start end array) → _≡_ {A = MadeBanded} (record { answer = a; banded = record { bands = r; count = count } }) (withEqualBands count start end colors)
+  pub equal-made : {array : List ℕ} {r : List LegendBand} → a ≡ Done → array ≡ padded 0 256 colors → r ≡ paddedBands (equalBands count start end array) → _≡_ {A = MadeBanded} (record { answer = a; banded = record { bands = r; count = count } }) (withEqualBands count start end colors)
   unfolding withEqualBands
   equal-made f p h =
       made (bandedOf (equalBands count start end colors)) answered f
       (record-of (equalBands count start end colors) (equal-length count start end colors)
-      (h ∙ ap (λ (xs : List ℕ). placesOf (equalBands count start end xs)) p ∙ ap placesOf (equal-padded count start end colors (equal-same count start end (length colors) (sym answered ∙ f)))))
+      (h ∙ ap (λ (xs : List ℕ). paddedBands (equalBands count start end xs)) p ∙ ap paddedBands (equal-padded count start end colors (equal-same count start end (length colors) (sym answered ∙ f)))))

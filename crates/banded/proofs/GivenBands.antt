@@ -14,7 +14,7 @@ use Rattle.refusal.specs.declared.Refusal.the-variants.{TooManyBands}
 use Rattle.refusal.specs.declared.Answer.the-variants.{Done}
 use Rattle.refusal.specs.Outcome.{refuseIf}
 use Rattle.banded_columns.specs.declared.LegendBand.{LegendBand}
-use Rattle.banded_lists.specs.Places.{blankBand}
+use Rattle.banded_lists.specs.Padded.{blankBand}
 use Rattle.banded.specs.declared.Banded.{Banded}
 use Rattle.banded.specs.Record.{bandedOf, beside}
 use Rattle.banded.specs.Given.{withBand, folded, givenRefusal, withBandsGiven}

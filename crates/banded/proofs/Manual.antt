@@ -10,7 +10,7 @@ use Rattle.refusal.specs.declared.Answer.the-variants.{Done, Refused}
 use Rattle.refusal.specs.declared.Refusal.{Refusal}
 use Rattle.banded_columns.specs.declared.LegendBand.{LegendBand}
 use Rattle.banded_lists.specs.declared.ValueRanges.{ValueRanges}
-use Rattle.banded_lists.specs.Places.{placesOf}
+use Rattle.banded_lists.specs.Padded.{paddedBands}
 use Rattle.banded_lists.specs.ManualRanges.{rangesOf, rangeBands, manualRefusal}
 use Rattle.banded_lists.proofs.Manual.{manual-same, range-padded}
 use Rattle.banded.specs.declared.Banded.{Banded}
@@ -28,10 +28,10 @@ module _ (values : ValueRanges) (colors : List ℕ) {given : ℕ} {a : Answer} (
   unfolding withManualRanges
   manual-refused f h = refused (bandedOf (rangeBands (rangesOf values) colors)) answered f h
 
-  pub manual-made : {array : List ℕ} {r : List LegendBand} → a ≡ Done → array ≡ padded 0 256 colors → (r ≡ placesOf (rangeBands (rangesOf values) array)) × (length (rangeBands (rangesOf values) array) ≡ values .count) → _≡_ {A = MadeBanded} (record { answer = a; banded = record { bands = r; count = values .count } }) (withManualRanges values colors)
+  pub manual-made : {array : List ℕ} {r : List LegendBand} → a ≡ Done → array ≡ padded 0 256 colors → (r ≡ paddedBands (rangeBands (rangesOf values) array)) × (length (rangeBands (rangesOf values) array) ≡ values .count) → _≡_ {A = MadeBanded} (record { answer = a; banded = record { bands = r; count = values .count } }) (withManualRanges values colors)
   unfolding withManualRanges
   manual-made f p (h, n) =
       let s = manual-same values (length colors) (sym answered ∙ f) in
       let same = ap (rangeBands (rangesOf values)) p ∙ range-padded (rangesOf values) colors (omega (arith, length-take (values .count) (values .ranges))) in
       made (bandedOf (rangeBands (rangesOf values) colors)) answered f
-      (record-of (rangeBands (rangesOf values) colors) (ap (λ (bs : List LegendBand). length bs) (sym same) ∙ n) (h ∙ ap placesOf same))
+      (record-of (rangeBands (rangesOf values) colors) (ap (λ (bs : List LegendBand). length bs) (sym same) ∙ n) (h ∙ ap paddedBands same))

@@ -9,7 +9,7 @@ use Rattle.refusal.specs.declared.Answer.{Answer}
 use Rattle.refusal.specs.declared.Answer.the-variants.{Done, Refused}
 use Rattle.refusal.proofs.Outcomes.{when-done, when-refused}
 use Rattle.banded_columns.specs.declared.LegendBand.{LegendBand}
-use Rattle.banded_lists.specs.Places.{blankBand, placesOf}
+use Rattle.banded_lists.specs.Padded.{blankBand, paddedBands}
 use Rattle.banded.specs.declared.Banded.{Banded}
 use Rattle.banded.specs.declared.MadeBanded.{MadeBanded}
 use Rattle.banded.specs.Record.{bandedOf, counted, beside}
@@ -23,12 +23,12 @@ pub count-of : (bands : List LegendBand) → bandedOf bands .count ≡ length ba
 unfolding bandedOf
 count-of bands = refl
 
-pub places-of : (bands : List LegendBand) → length bands ≤ 64 → length (bandedOf bands .bands) ≡ 64
+pub band-indices : (bands : List LegendBand) → length bands ≤ 64 → length (bandedOf bands .bands) ≡ 64
 unfolding bandedOf
-places-of bands h = length-padded blankBand 64 bands h
+band-indices bands h = length-padded blankBand 64 bands h
 
 -- bands in their places, and how many they are
-pub record-of : (bands : List LegendBand) {r : List LegendBand} {n : ℕ} → length bands ≡ n → r ≡ placesOf bands → _≡_ {A = Banded} (record { bands = r; count = n }) (bandedOf bands)
+pub record-of : (bands : List LegendBand) {r : List LegendBand} {n : ℕ} → length bands ≡ n → r ≡ paddedBands bands → _≡_ {A = Banded} (record { bands = r; count = n }) (bandedOf bands)
 unfolding bandedOf
 record-of bands e h = ap₂ (λ x y. record { bands = x; count = y }) h (sym e)
 

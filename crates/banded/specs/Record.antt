@@ -8,13 +8,13 @@ use Rattle.refusal.specs.declared.Answer.{Answer}
 use Rattle.refusal.specs.declared.Answer.the-variants.{Done}
 use Rattle.refusal.specs.Outcome.{refuseIf, ifDone}
 use Rattle.banded_columns.specs.declared.LegendBand.{LegendBand}
-use Rattle.banded_lists.specs.Places.{placesOf}
+use Rattle.banded_lists.specs.Padded.{paddedBands}
 use Rattle.banded.specs.declared.Banded.{Banded}
 use Rattle.banded.specs.declared.MadeBanded.{MadeBanded}
 
 -- the record of at most 64 bands: the bands in their order, then blank ones
 unfoldable pub bandedOf : List LegendBand → Banded
-bandedOf bands = record { bands = placesOf bands; count = length bands }
+bandedOf bands = record { bands = paddedBands bands; count = length bands }
 
 -- the bands that a record counts: all 64 where its count is above that
 abbrev pub counted : Banded → List LegendBand

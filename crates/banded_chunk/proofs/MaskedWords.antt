@@ -18,7 +18,7 @@ use Rattle.banded_columns.specs.declared.LegendBand.{LegendBand}
 use Rattle.banded_lanes.specs.LaneRule.{laneColors}
 use Rattle.banded_lanes.proofs.LaneLaw.{lane-length}
 use Rattle.banded_chunk.specs.declared.BandedPaint.{BandedPaint}
-use Rattle.banded_chunk.specs.Rules.{laneChunk}
+use Rattle.banded_chunk.specs.forms.Samples.{laneChunk}
 
 module _ (l : ℕ) (bands : List LegendBand) (p : BandedPaint) (v : List Float) (m : l ≤ length v) where
   colors-length : length (laneColors bands (p .unmappable) (take l v)) ≡ l

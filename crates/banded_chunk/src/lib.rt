@@ -11,12 +11,12 @@ ghost use lib.Ieee.{nan};
 ghost use lib.ListN.{length, getD, take};
 ghost use Rattle.lists.specs.Lanes.{LanesOf};
 ghost use Rattle.lists.specs.Padded.{padded};
-ghost use Rattle.banded_rule.specs.Packed.{packed};
-ghost use Rattle.banded_search.specs.Apart.{apart};
+ghost use Rattle.banded_rule.specs.forms.Columns.{fromColumns};
+ghost use Rattle.banded_search.specs.forms.Ascending.{apart};
 ghost use Rattle.painting.specs.Painted.{chunkOver};
 ghost use Rattle.painting.specs.Contracts.{laneCount};
-ghost use Rattle.banded_chunk.specs.Rules.{plainSample, laneChunk};
-ghost use Rattle.banded_chunk.specs.Search.{Searchable};
+ghost use Rattle.banded_chunk.specs.forms.Samples.{plainSample, laneChunk};
+ghost use Rattle.banded_chunk.specs.forms.Searchable.{Searchable};
 
 // What a banded legend is painted by, beside its bands.
 pub struct BandedPaint {
@@ -35,7 +35,7 @@ fn words_plain(
     v: [f32; 16],
 ) -> [u32; 16]
     requires { ⌜ p .count ≤ 64 ⌝ }
-    ensures { λ d. ⌜ LanesOf 0 16 (λ k. plainSample (packed (now (starts .entry)) (now (ends .entry)) (now (colors .entry)) (p .count)) p (getD v k nan)) d ⌝ }
+    ensures { λ d. ⌜ LanesOf 0 16 (λ k. plainSample (fromColumns (now (starts .entry)) (now (ends .entry)) (now (colors .entry)) (p .count)) p (getD v k nan)) d ⌝ }
 {
     let c = banded_rule::colors_for_numeric_values(starts, ends, colors, p.count, p.unmappable, v);
     p.exclusions.masked_simd(16, v, p.unmappable.nodata, c)
@@ -49,7 +49,7 @@ fn words_searched(
     v: [f32; 16],
 ) -> [u32; 16]
     requires { ⌜ (p .count ≤ 64) × (apart (now starts) (now ends) (p .count) ≡ true) ⌝ }
-    ensures { λ d. ⌜ LanesOf 0 16 (λ k. plainSample (packed (now (starts .entry)) (now (ends .entry)) (now (colors .entry)) (p .count)) p (getD v k nan)) d ⌝ }
+    ensures { λ d. ⌜ LanesOf 0 16 (λ k. plainSample (fromColumns (now (starts .entry)) (now (ends .entry)) (now (colors .entry)) (p .count)) p (getD v k nan)) d ⌝ }
 {
     let c = banded_search::colors_for_numeric_values(
         starts,
@@ -72,7 +72,7 @@ pub fn words(
     v: [f32; 16],
 ) -> [u32; 16]
     requires { ⌜ (p .count ≤ 64) × (search ≡ true → apart (now starts) (now ends) (p .count) ≡ true) ⌝ }
-    ensures { λ d. ⌜ LanesOf 0 16 (λ k. plainSample (packed (now (starts .entry)) (now (ends .entry)) (now (colors .entry)) (p .count)) p (getD v k nan)) d ⌝ }
+    ensures { λ d. ⌜ LanesOf 0 16 (λ k. plainSample (fromColumns (now (starts .entry)) (now (ends .entry)) (now (colors .entry)) (p .count)) p (getD v k nan)) d ⌝ }
 {
     if search {
         return words_searched(starts, ends, colors, p, v);
@@ -90,10 +90,10 @@ fn words4(
     v: [f32; 16],
 ) -> [u32; 16]
     requires { ⌜ p .count ≤ 64 ⌝ }
-    ensures { λ d. ⌜ d ≡ padded 0 16 (laneChunk (packed (now (starts .entry)) (now (ends .entry)) (now (colors .entry)) (p .count)) p (take 4 v)) ⌝ }
+    ensures { λ d. ⌜ d ≡ padded 0 16 (laneChunk (fromColumns (now (starts .entry)) (now (ends .entry)) (now (colors .entry)) (p .count)) p (take 4 v)) ⌝ }
 {
     let scan = banded_lanes::scanned(4, starts, ends, colors, p.count, p.unmappable.nodata, v);
-    let c = banded_lanes::settled(4, starts, ends, colors, p.count, p.unmappable, v, scan);
+    let c = banded_lanes::apply_lane_edges(4, starts, ends, colors, p.count, p.unmappable, v, scan);
     p.exclusions.masked_simd(4, v, p.unmappable.nodata, c)
 }
 
@@ -105,10 +105,10 @@ fn words8(
     v: [f32; 16],
 ) -> [u32; 16]
     requires { ⌜ p .count ≤ 64 ⌝ }
-    ensures { λ d. ⌜ d ≡ padded 0 16 (laneChunk (packed (now (starts .entry)) (now (ends .entry)) (now (colors .entry)) (p .count)) p (take 8 v)) ⌝ }
+    ensures { λ d. ⌜ d ≡ padded 0 16 (laneChunk (fromColumns (now (starts .entry)) (now (ends .entry)) (now (colors .entry)) (p .count)) p (take 8 v)) ⌝ }
 {
     let scan = banded_lanes::scanned(8, starts, ends, colors, p.count, p.unmappable.nodata, v);
-    let c = banded_lanes::settled(8, starts, ends, colors, p.count, p.unmappable, v, scan);
+    let c = banded_lanes::apply_lane_edges(8, starts, ends, colors, p.count, p.unmappable, v, scan);
     p.exclusions.masked_simd(8, v, p.unmappable.nodata, c)
 }
 
@@ -120,10 +120,19 @@ fn words16(
     v: [f32; 16],
 ) -> [u32; 16]
     requires { ⌜ p .count ≤ 64 ⌝ }
-    ensures { λ d. ⌜ d ≡ padded 0 16 (laneChunk (packed (now (starts .entry)) (now (ends .entry)) (now (colors .entry)) (p .count)) p (take 16 v)) ⌝ }
+    ensures { λ d. ⌜ d ≡ padded 0 16 (laneChunk (fromColumns (now (starts .entry)) (now (ends .entry)) (now (colors .entry)) (p .count)) p (take 16 v)) ⌝ }
 {
     let scan = banded_lanes::scanned(16, starts, ends, colors, p.count, p.unmappable.nodata, v);
-    let c = banded_lanes::settled(16, starts, ends, colors, p.count, p.unmappable, v, scan);
+    let c = banded_lanes::apply_lane_edges(
+        16,
+        starts,
+        ends,
+        colors,
+        p.count,
+        p.unmappable,
+        v,
+        scan,
+    );
     p.exclusions.masked_simd(16, v, p.unmappable.nodata, c)
 }
 
@@ -137,9 +146,9 @@ fn words4_searched(
     v: [f32; 16],
 ) -> [u32; 16]
     requires { ⌜ (p .count ≤ 64) × Searchable (now starts) (now ends) (p .count) ⌝ }
-    ensures { λ d. ⌜ d ≡ padded 0 16 (laneChunk (packed (now (starts .entry)) (now (ends .entry)) (now (colors .entry)) (p .count)) p (take 4 v)) ⌝ }
+    ensures { λ d. ⌜ d ≡ padded 0 16 (laneChunk (fromColumns (now (starts .entry)) (now (ends .entry)) (now (colors .entry)) (p .count)) p (take 4 v)) ⌝ }
 {
-    let places = indices::places_of(4, starts, p.count, v);
+    let places = indices::band_indices(4, starts, p.count, v);
     let unheld = [p.unmappable.nodata; 16];
     let held = banded_search::colors_at(4, starts, ends, colors, places, v, unheld);
     let all = banded_search::all_held(4, starts, ends, places, v);
@@ -147,7 +156,7 @@ fn words4_searched(
         colors: held,
         finished: all,
     };
-    let c = banded_lanes::settled(4, starts, ends, colors, p.count, p.unmappable, v, scan);
+    let c = banded_lanes::apply_lane_edges(4, starts, ends, colors, p.count, p.unmappable, v, scan);
     p.exclusions.masked_simd(4, v, p.unmappable.nodata, c)
 }
 
@@ -159,9 +168,9 @@ fn words8_searched(
     v: [f32; 16],
 ) -> [u32; 16]
     requires { ⌜ (p .count ≤ 64) × Searchable (now starts) (now ends) (p .count) ⌝ }
-    ensures { λ d. ⌜ d ≡ padded 0 16 (laneChunk (packed (now (starts .entry)) (now (ends .entry)) (now (colors .entry)) (p .count)) p (take 8 v)) ⌝ }
+    ensures { λ d. ⌜ d ≡ padded 0 16 (laneChunk (fromColumns (now (starts .entry)) (now (ends .entry)) (now (colors .entry)) (p .count)) p (take 8 v)) ⌝ }
 {
-    let places = indices::places_of(8, starts, p.count, v);
+    let places = indices::band_indices(8, starts, p.count, v);
     let unheld = [p.unmappable.nodata; 16];
     let held = banded_search::colors_at(8, starts, ends, colors, places, v, unheld);
     let all = banded_search::all_held(8, starts, ends, places, v);
@@ -169,7 +178,7 @@ fn words8_searched(
         colors: held,
         finished: all,
     };
-    let c = banded_lanes::settled(8, starts, ends, colors, p.count, p.unmappable, v, scan);
+    let c = banded_lanes::apply_lane_edges(8, starts, ends, colors, p.count, p.unmappable, v, scan);
     p.exclusions.masked_simd(8, v, p.unmappable.nodata, c)
 }
 
@@ -181,9 +190,9 @@ fn words16_searched(
     v: [f32; 16],
 ) -> [u32; 16]
     requires { ⌜ (p .count ≤ 64) × Searchable (now starts) (now ends) (p .count) ⌝ }
-    ensures { λ d. ⌜ d ≡ padded 0 16 (laneChunk (packed (now (starts .entry)) (now (ends .entry)) (now (colors .entry)) (p .count)) p (take 16 v)) ⌝ }
+    ensures { λ d. ⌜ d ≡ padded 0 16 (laneChunk (fromColumns (now (starts .entry)) (now (ends .entry)) (now (colors .entry)) (p .count)) p (take 16 v)) ⌝ }
 {
-    let places = indices::places_of(16, starts, p.count, v);
+    let places = indices::band_indices(16, starts, p.count, v);
     let unheld = [p.unmappable.nodata; 16];
     let held = banded_search::colors_at(16, starts, ends, colors, places, v, unheld);
     let all = banded_search::all_held(16, starts, ends, places, v);
@@ -191,7 +200,16 @@ fn words16_searched(
         colors: held,
         finished: all,
     };
-    let c = banded_lanes::settled(16, starts, ends, colors, p.count, p.unmappable, v, scan);
+    let c = banded_lanes::apply_lane_edges(
+        16,
+        starts,
+        ends,
+        colors,
+        p.count,
+        p.unmappable,
+        v,
+        scan,
+    );
     p.exclusions.masked_simd(16, v, p.unmappable.nodata, c)
 }
 
@@ -208,7 +226,7 @@ pub fn chunk(
     out: &mut [u32],
 )
     requires { ⌜ (p .count ≤ 64) × (laneCount l ≡ true) × (base + l ≤ length (now src)) × (base + l ≤ length (now out)) ⌝ }
-    ensures { λ _. ⌜ now (out .exit) ≡ chunkOver (laneChunk (packed (now (starts .entry)) (now (ends .entry)) (now (colors .entry)) (p .count)) p) (now (src .entry)) (now (out .entry)) base l ⌝ }
+    ensures { λ _. ⌜ now (out .exit) ≡ chunkOver (laneChunk (fromColumns (now (starts .entry)) (now (ends .entry)) (now (colors .entry)) (p .count)) p) (now (src .entry)) (now (out .entry)) base l ⌝ }
 {
     if l == 4 {
         let v = painting::load(4, src, base);
@@ -235,7 +253,7 @@ pub fn chunk_searched(
     out: &mut [u32],
 )
     requires { ⌜ (p .count ≤ 64) × Searchable (now starts) (now ends) (p .count) × (laneCount l ≡ true) × (base + l ≤ length (now src)) × (base + l ≤ length (now out)) ⌝ }
-    ensures { λ _. ⌜ now (out .exit) ≡ chunkOver (laneChunk (packed (now (starts .entry)) (now (ends .entry)) (now (colors .entry)) (p .count)) p) (now (src .entry)) (now (out .entry)) base l ⌝ }
+    ensures { λ _. ⌜ now (out .exit) ≡ chunkOver (laneChunk (fromColumns (now (starts .entry)) (now (ends .entry)) (now (colors .entry)) (p .count)) p) (now (src .entry)) (now (out .entry)) base l ⌝ }
 {
     if l == 4 {
         let v = painting::load(4, src, base);

@@ -15,8 +15,8 @@ use Rattle.banded_columns.specs.declared.LegendBand.{LegendBand}
 use Rattle.banded_columns.specs.Band.{holds}
 use Rattle.banded_lanes.specs.Edges.{Lane}
 use Rattle.banded_lanes.specs.LaneRule.{started, over, allInside, scanned}
-use Rattle.banded_rule.specs.Packed.{bandAt, packed}
-use Rattle.banded_lanes.specs.Parts.{allBelow, Sweep, swept, Scanned}
+use Rattle.banded_rule.specs.forms.Columns.{bandAt, fromColumns}
+use Rattle.banded_lanes.specs.forms.Scanning.{allBelow, Sweep, swept, Scanned}
 use Rattle.banded_lanes.proofs.Entries.{same-rule, front, map-rule, map-same}
 use Rattle.banded_rule.proofs.Forms.{drop-band, drop-end}
 
@@ -112,7 +112,7 @@ module _ (starts ends : List Float) (colors : List ℕ) (count : ℕ) (nodata n 
   f = bandAt starts ends colors
 
   abbrev bands : List LegendBand
-  bands = packed starts ends colors count
+  bands = fromColumns starts ends colors count
 
   abbrev chunk : List Lane
   chunk = map (started nodata) (take n value)

@@ -7,7 +7,7 @@ use lib.Ieee.{Float}
 use Rattle.lists.specs.Tabulate.{tabulate}
 use Rattle.colormapper.specs.declared.UnmappableColors.{UnmappableColors}
 use Rattle.banded_columns.specs.declared.LegendBand.{LegendBand}
-use Rattle.banded_rule.specs.Packed.{bandAt, packed}
+use Rattle.banded_rule.specs.forms.Columns.{bandAt, fromColumns}
 use Rattle.banded_rule.proofs.Forms.{last-is}
 use Rattle.banded_lanes.specs.Edges.{edged}
 use Rattle.banded_lanes.specs.LaneRule.{started, scanned, laneColors}
@@ -17,13 +17,13 @@ module _ (starts ends : List Float) (colors : List ℕ) where
   f = bandAt starts ends colors
 
   abbrev bands : ℕ → List LegendBand
-  bands = packed starts ends colors
+  bands = fromColumns starts ends colors
 
   pub lane-none : (count : ℕ) (u : UnmappableColors) (vs : List Float) → count ≡ 0 → laneColors (bands count) u vs ≡ map (λ (v : Float). u .nodata) vs
-  unfolding packed tabulate laneColors
+  unfolding fromColumns tabulate laneColors
   lane-none count u vs e = ap (λ (n : ℕ). laneColors (bands n) u vs) e
 
   pub lane-packed : (count : ℕ) (u : UnmappableColors) (vs : List Float) → 0 < count → laneColors (bands count) u vs ≡ scanned (edged u (f 0) (f (count - 1))) (bands count) (map (started (u .nodata)) vs)
-  unfolding packed tabulate laneColors
+  unfolding fromColumns tabulate laneColors
   lane-packed zero u vs h = absurd (omega arith)
   lane-packed (suc n) u vs h = let bs = tabulate n (λ k. f (suc k)) in ap (λ (l : LegendBand). scanned (edged u (f 0) l) (f 0 ∷ bs) (map (started (u .nodata)) vs)) (last-is starts ends colors n)

@@ -15,7 +15,7 @@ use Rattle.banded_columns.specs.Band.{holds, lastOf}
 use Rattle.banded_rule.specs.PlainRule.{plainRule, plainColor}
 use Rattle.banded_lanes.specs.Edges.{Lane, edged}
 use Rattle.banded_lanes.specs.LaneRule.{started, over, allInside, scanned, laneColors}
-use Rattle.banded_lanes.specs.Sound.{Sound}
+use Rattle.banded_lanes.specs.Conditions.{LawfulBands}
 use Rattle.banded_lanes.proofs.Entries.{map-same, map-at}
 use Rattle.banded_lanes.proofs.SampleLaw.{laneIn, held, edges-law, early-law}
 
@@ -81,7 +81,7 @@ state-more nodata ps q v = go (holds q v) ∙ sym (ap₂ (λ (i : Bool) (c : ℕ
     go false = refl
 
 -- ---- THE LAW
-module _ (b : LegendBand) (bs : List LegendBand) (s : Sound (b ∷ bs)) (u : UnmappableColors) (vs : List Float) (k : ℕ) (n : T (not (isNan (getD vs k nan)))) where
+module _ (b : LegendBand) (bs : List LegendBand) (s : LawfulBands (b ∷ bs)) (u : UnmappableColors) (vs : List Float) (k : ℕ) (n : T (not (isNan (getD vs k nan)))) where
   abbrev edge : Lane → ℕ
   edge = edged u b (lastOf b bs)
 
@@ -111,7 +111,7 @@ module _ (b : LegendBand) (bs : List LegendBand) (s : Sound (b ∷ bs)) (u : Unm
           (all-at (here (ps ++ (q ∷ []))) vs k (in-chunk vs k n) (subst T (sym (ap allInside (sym moved) ∙ a)) tt))
       go false a i = ap (λ (ls : List Lane). getD (scanned edge qs ls) k 0) moved ∙ i
 
-pub lane-law : (bands : List LegendBand) → Sound bands → (u : UnmappableColors) (vs : List Float) (k : ℕ) → T (not (isNan (getD vs k nan))) → getD (laneColors bands u vs) k 0 ≡ plainColor bands u (getD vs k nan)
+pub lane-law : (bands : List LegendBand) → LawfulBands bands → (u : UnmappableColors) (vs : List Float) (k : ℕ) → T (not (isNan (getD vs k nan))) → getD (laneColors bands u vs) k 0 ≡ plainColor bands u (getD vs k nan)
 unfolding laneColors plainRule
 lane-law [] s u vs k n = map-at (λ (v : Float). u .nodata) vs k nan 0 (in-chunk vs k n)
 lane-law (b ∷ bs) s u vs k n = unfold state held laneIn in scan-law b bs s u vs k n [] (b ∷ bs) refl

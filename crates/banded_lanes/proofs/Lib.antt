@@ -2,7 +2,7 @@ pub mod Entries
 pub mod Updating
 pub mod LaneForms
 pub mod Chunk
-pub mod Settling
+pub mod LaneEdges
 pub mod Ordering
 pub mod FarEdges
 pub mod SampleLaw

@@ -14,8 +14,8 @@ use Rattle.banded_columns.specs.declared.LegendBand.{LegendBand}
 use Rattle.banded_columns.specs.Band.{holds, lastOf}
 use Rattle.banded_rule.specs.PlainRule.{plainColor}
 use Rattle.banded_lanes.specs.Edges.{edged}
-use Rattle.banded_rule.specs.Parts.{firstColor, edgeColor}
-use Rattle.banded_lanes.specs.Sound.{startsBelowEnd, clears, wideBand, eachBand, eachAfter, eachNext, firstAndLast, Sound}
+use Rattle.banded_rule.specs.forms.Steps.{firstColor, edgeColor}
+use Rattle.banded_lanes.specs.Conditions.{startsBelowEnd, clears, wideBand, eachBand, eachAfter, eachNext, firstAndLast, LawfulBands}
 use Rattle.banded_rule.proofs.Forms.{edge-chain, plain-form}
 use Rattle.banded_lanes.proofs.Ordering.{end-start}
 use Rattle.banded_lanes.proofs.FarEdges.{past-end, up-to-start}
@@ -266,7 +266,7 @@ chain-of lo b (d ∷ bs) l q r =
       chain-of (b .end) d bs (end-start b d starts (and-l (startsBelowEnd d) (eachBand startsBelowEnd bs) later) (and-l (clears b d) (eachAfter clears d bs) r)) later (and-r (clears b d) (eachAfter clears d bs) r),
     )
 
-module _ (b : LegendBand) (bs : List LegendBand) (s : Sound (b ∷ bs)) (u : UnmappableColors) (v : Float) where
+module _ (b : LegendBand) (bs : List LegendBand) (s : LawfulBands (b ∷ bs)) (u : UnmappableColors) (v : Float) where
   sound-chain : Chain (b .start) (b ∷ bs)
   unfolding eachNext
   sound-chain = chain-of (b .start) b bs (le-refl-float (b .start) (lt-l (b .start) (b .end) first)) (s .disjoint .starts) (s .disjoint .apart)

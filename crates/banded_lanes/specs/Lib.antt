@@ -1,4 +1,4 @@
 pub mod LaneRule
-pub mod Parts
-pub mod Sound
+pub mod Conditions
 pub mod Edges
+pub mod forms

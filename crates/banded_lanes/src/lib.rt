@@ -12,9 +12,9 @@ ghost use lib.ListN.{getD, take};
 ghost use Rattle.lists.specs.Lanes.{LanesOf};
 ghost use Rattle.lists.specs.Padded.{padded};
 ghost use Rattle.banded_columns.specs.Band.{holds};
-ghost use Rattle.banded_rule.specs.Packed.{packed};
+ghost use Rattle.banded_rule.specs.forms.Columns.{fromColumns};
 ghost use Rattle.banded_lanes.specs.LaneRule.{laneColors};
-ghost use Rattle.banded_lanes.specs.Parts.{allBelow, Scanned};
+ghost use Rattle.banded_lanes.specs.forms.Scanning.{allBelow, Scanned};
 
 // A chunk after the bands: its colours so far, and whether each lane lies in some band.
 pub struct Scan {
@@ -34,22 +34,22 @@ pub fn color_for_numeric_value_simd(
     value: [f32; 16],
 ) -> [u32; 16]
     requires { ⌜ (lanes ≤ 16) × (count ≤ 64) ⌝ }
-    ensures { λ r. ⌜ r ≡ padded 0 16 (laneColors (packed (now (starts .entry)) (now (ends .entry)) (now (colors .entry)) count) u (take lanes value)) ⌝ }
+    ensures { λ r. ⌜ r ≡ padded 0 16 (laneColors (fromColumns (now (starts .entry)) (now (ends .entry)) (now (colors .entry)) count) u (take lanes value)) ⌝ }
 {
     if lanes == 4 {
         let scan = scanned(4, starts, ends, colors, count, u.nodata, value);
-        return settled(4, starts, ends, colors, count, u, value, scan);
+        return apply_lane_edges(4, starts, ends, colors, count, u, value, scan);
     }
     if lanes == 8 {
         let scan = scanned(8, starts, ends, colors, count, u.nodata, value);
-        return settled(8, starts, ends, colors, count, u, value, scan);
+        return apply_lane_edges(8, starts, ends, colors, count, u, value, scan);
     }
     if lanes == 16 {
         let scan = scanned(16, starts, ends, colors, count, u.nodata, value);
-        return settled(16, starts, ends, colors, count, u, value, scan);
+        return apply_lane_edges(16, starts, ends, colors, count, u, value, scan);
     }
     let scan = scanned(lanes, starts, ends, colors, count, u.nodata, value);
-    settled(lanes, starts, ends, colors, count, u, value, scan)
+    apply_lane_edges(lanes, starts, ends, colors, count, u, value, scan)
 }
 
 // The bands over a chunk, in order, until each lane lies in some band.
@@ -63,9 +63,9 @@ pub fn scanned(
     value: [f32; 16],
 ) -> Scan
     requires { ⌜ (lanes ≤ 16) × (count ≤ 64) ⌝ }
-    ensures { λ r. ⌜ Scanned lanes (packed (now (starts .entry)) (now (ends .entry)) (now (colors .entry)) count) nodata value r ⌝ }
+    ensures { λ r. ⌜ Scanned lanes (fromColumns (now (starts .entry)) (now (ends .entry)) (now (colors .entry)) count) nodata value r ⌝ }
 {
-    let mut result = starting_colors(lanes, nodata);
+    let mut result = nodata_lanes(lanes, nodata);
     let mut inside = [false; 16];
     let mut i: usize = 0;
     while i < count {
@@ -85,7 +85,7 @@ pub fn scanned(
 }
 
 // Nodata in the first lanes, and 0 in the others.
-fn starting_colors(lanes: usize, nodata: u32) -> [u32; 16]
+fn nodata_lanes(lanes: usize, nodata: u32) -> [u32; 16]
     requires { ⌜ lanes ≤ 16 ⌝ }
     ensures { λ r. ⌜ LanesOf 0 lanes (λ k. nodata) r ⌝ }
 {
@@ -125,7 +125,7 @@ fn enter(
 }
 
 // A chunk that no band finished takes the colours of the edges. The scan is that of the same bands and values.
-pub fn settled(
+pub fn apply_lane_edges(
     lanes: usize,
     starts: &[f32; 64],
     ends: &[f32; 64],
@@ -135,8 +135,8 @@ pub fn settled(
     value: [f32; 16],
     scan: Scan,
 ) -> [u32; 16]
-    requires { ⌜ (lanes ≤ 16) × (count ≤ 64) × Scanned lanes (packed (now starts) (now ends) (now colors) count) (u .nodata) value scan ⌝ }
-    ensures { λ r. ⌜ r ≡ padded 0 16 (laneColors (packed (now (starts .entry)) (now (ends .entry)) (now (colors .entry)) count) u (take lanes value)) ⌝ }
+    requires { ⌜ (lanes ≤ 16) × (count ≤ 64) × Scanned lanes (fromColumns (now starts) (now ends) (now colors) count) (u .nodata) value scan ⌝ }
+    ensures { λ r. ⌜ r ≡ padded 0 16 (laneColors (fromColumns (now (starts .entry)) (now (ends .entry)) (now (colors .entry)) count) u (take lanes value)) ⌝ }
 {
     let result = scan.colors;
     if scan.finished {

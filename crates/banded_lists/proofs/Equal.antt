@@ -19,7 +19,7 @@ use Rattle.refusal.specs.declared.Refusal.the-variants.{StartAboveEnd, TooManyB
 use Rattle.refusal.specs.Outcome.{refuseIf}
 use Rattle.refusal.proofs.Outcomes.{passed}
 use Rattle.banded_columns.specs.declared.LegendBand.{LegendBand}
-use Rattle.banded_lists.specs.Places.{blankBand, placesOf}
+use Rattle.banded_lists.specs.Padded.{blankBand, paddedBands}
 use Rattle.banded_lists.specs.EqualBands.{bandStep, bandStart, bandFrom, equalBands, equalRefusal}
 use Rattle.banded_lists.proofs.Storing.{no-bands-stored}
 
@@ -59,7 +59,7 @@ pub record Laying (start step : Float) (colors : List ℕ) (count i : ℕ) (posi
   pub stored : Storing blankBand (λ k. bandFrom (bandStart start step k) step (getD colors k 0)) 64 count i bands
 
 module _ {start step : Float} {colors : List ℕ} {count : ℕ} where
-  pub laying-start : {bands : List LegendBand} → bands ≡ placesOf [] → Laying start step colors count 0 start bands
+  pub laying-start : {bands : List LegendBand} → bands ≡ paddedBands [] → Laying start step colors count 0 start bands
   unfolding bandStart
   laying-start e = record { at = refl; stored = no-bands-stored e }
 

@@ -1,3 +1,3 @@
-pub mod Places
+pub mod Padded
 pub mod EqualBands
 pub mod ManualRanges

@@ -6,7 +6,7 @@ ghost use mathlib.Core.Path.{_≡_};
 ghost use mathlib.Core.List.{[]};
 ghost use Prim.Native.Nat.{_≤_};
 ghost use lib.ListN.{length, take};
-ghost use Rattle.banded_lists.specs.Places.{placesOf};
+ghost use Rattle.banded_lists.specs.Padded.{paddedBands};
 ghost use Rattle.banded_lists.specs.EqualBands.{bandFrom, equalBands, equalRefusal};
 ghost use Rattle.banded_lists.specs.ManualRanges.{bandOf, rangeBands, firstEmpty, manualRefusal};
 
@@ -25,7 +25,7 @@ pub struct ValueRanges {
 }
 
 pub fn no_bands() -> [LegendBand; 64]
-    ensures { λ r. ⌜ r ≡ placesOf [] ⌝ }
+    ensures { λ r. ⌜ r ≡ paddedBands [] ⌝ }
 {
     [LegendBand {
         start: 0.0,
@@ -54,7 +54,7 @@ pub fn equal_refusal(count: usize, start: f32, end: f32, given: usize) -> Answer
 // The builders refuse a larger count.
 pub fn equal_bands(count: usize, start: f32, end: f32, colors: [u32; 256]) -> [LegendBand; 64]
     requires { ⌜ count ≤ 64 ⌝ }
-    ensures { λ r. ⌜ r ≡ placesOf (equalBands count start end colors) ⌝ }
+    ensures { λ r. ⌜ r ≡ paddedBands (equalBands count start end colors) ⌝ }
 {
     let step = (end - start) / (count as f32);
     let mut position = start;
@@ -117,7 +117,7 @@ fn first_empty(ranges: [ValueRange; 64], count: usize) -> usize
 // The builders refuse a larger count. That the bands are `count` is stated too: a caller does not know that its array has 64 places.
 pub fn range_bands(ranges: [ValueRange; 64], count: usize, colors: [u32; 256]) -> [LegendBand; 64]
     requires { ⌜ count ≤ 64 ⌝ }
-    ensures { λ r. ⌜ (r ≡ placesOf (rangeBands (take count ranges) colors)) × (length (rangeBands (take count ranges) colors) ≡ count) ⌝ }
+    ensures { λ r. ⌜ (r ≡ paddedBands (rangeBands (take count ranges) colors)) × (length (rangeBands (take count ranges) colors) ≡ count) ⌝ }
 {
     let mut bands = no_bands();
     let mut i: usize = 0;

@@ -7,11 +7,11 @@ ghost use mathlib.Core.Bool.{true};
 ghost use mathlib.Core.List.{map, _++_};
 ghost use Prim.Native.Nat.{_+_, _≤_};
 ghost use lib.ListN.{length, take, drop};
-ghost use Rattle.banded_rule.specs.Packed.{packed};
-ghost use Rattle.banded_search.specs.Apart.{apart};
+ghost use Rattle.banded_rule.specs.forms.Columns.{fromColumns};
+ghost use Rattle.banded_search.specs.forms.Ascending.{apart};
 ghost use Rattle.painting.specs.Painted.{plainPainted, lanePainted, chunkOver};
 ghost use Rattle.painting.specs.Contracts.{laneCount};
-ghost use Rattle.banded_chunk.specs.Rules.{plainSample, laneChunk};
+ghost use Rattle.banded_chunk.specs.forms.Samples.{plainSample, laneChunk};
 
 // ---- one block of a raster
 
@@ -26,7 +26,7 @@ fn block(
     out: &mut [u32],
 )
     requires { ⌜ (p .count ≤ 64) × (search ≡ true → apart (now starts) (now ends) (p .count) ≡ true) × (base + 16 ≤ length (now src)) × (base + 16 ≤ length (now out)) ⌝ }
-    ensures { λ _. ⌜ now (out .exit) ≡ chunkOver (map (plainSample (packed (now (starts .entry)) (now (ends .entry)) (now (colors .entry)) (p .count)) p)) (now (src .entry)) (now (out .entry)) base 16 ⌝ }
+    ensures { λ _. ⌜ now (out .exit) ≡ chunkOver (map (plainSample (fromColumns (now (starts .entry)) (now (ends .entry)) (now (colors .entry)) (p .count)) p)) (now (src .entry)) (now (out .entry)) base 16 ⌝ }
 {
     let v = painting::load(16, src, base);
     painting::store(
@@ -49,7 +49,7 @@ fn rest(
     out: &mut [u32],
 )
     requires { ⌜ (p .count ≤ 64) × (search ≡ true → apart (now starts) (now ends) (p .count) ≡ true) × (base ≤ length (now src)) × (length (now src) ≤ base + 16) × (length (now out) ≡ length (now src)) ⌝ }
-    ensures { λ _. ⌜ now (out .exit) ≡ take base (now (out .entry)) ++ map (plainSample (packed (now (starts .entry)) (now (ends .entry)) (now (colors .entry)) (p .count)) p) (drop base (now (src .entry))) ⌝ }
+    ensures { λ _. ⌜ now (out .exit) ≡ take base (now (out .entry)) ++ map (plainSample (fromColumns (now (starts .entry)) (now (ends .entry)) (now (colors .entry)) (p .count)) p) (drop base (now (src .entry))) ⌝ }
 {
     let m = src.len() - base;
     if m == 0 {
@@ -76,9 +76,9 @@ pub fn paint(
     out: &mut [u32],
 )
     requires { ⌜ (p .count ≤ 64) × (length (now out) ≡ length (now src)) ⌝ }
-    ensures { λ _. ⌜ now (out .exit) ≡ plainPainted (plainSample (packed (now (starts .entry)) (now (ends .entry)) (now (colors .entry)) (p .count)) p) (now (src .entry)) ⌝ }
+    ensures { λ _. ⌜ now (out .exit) ≡ plainPainted (plainSample (fromColumns (now (starts .entry)) (now (ends .entry)) (now (colors .entry)) (p .count)) p) (now (src .entry)) ⌝ }
 {
-    let search = indices::apart(starts, ends, p.count);
+    let search = indices::ascending_disjoint(starts, ends, p.count);
     let n = src.len();
     let mut base: usize = 0;
     while 16 <= n - base {
@@ -99,9 +99,9 @@ pub fn paint_simd(
     out: &mut [u32],
 )
     requires { ⌜ (p .count ≤ 64) × (laneCount l ≡ true) × (length (now out) ≡ length (now src)) ⌝ }
-    ensures { λ _. ⌜ now (out .exit) ≡ lanePainted l (laneChunk (packed (now (starts .entry)) (now (ends .entry)) (now (colors .entry)) (p .count)) p) (plainSample (packed (now (starts .entry)) (now (ends .entry)) (now (colors .entry)) (p .count)) p) (now (src .entry)) ⌝ }
+    ensures { λ _. ⌜ now (out .exit) ≡ lanePainted l (laneChunk (fromColumns (now (starts .entry)) (now (ends .entry)) (now (colors .entry)) (p .count)) p) (plainSample (fromColumns (now (starts .entry)) (now (ends .entry)) (now (colors .entry)) (p .count)) p) (now (src .entry)) ⌝ }
 {
-    let search = indices::apart(starts, ends, p.count) & (0 < p.count);
+    let search = indices::ascending_disjoint(starts, ends, p.count) & (0 < p.count);
     let n = src.len();
     let mut base: usize = 0;
     while l <= n - base {

@@ -17,8 +17,8 @@ use Rattle.banded_columns.specs.declared.LegendBand.{LegendBand}
 use Rattle.banded_columns.specs.Band.{holds, lastOf}
 use Rattle.colormapper.specs.Rule.{Rule, band, lowerEdge, upperEdge, low, high, gap, ruleColor}
 use Rattle.banded_rule.specs.PlainRule.{firstBand, edges, plainRule, bandedRuleColors, plainColor}
-use Rattle.banded_rule.specs.Packed.{bandAt, packed}
-use Rattle.banded_rule.specs.Parts.{firstColor, edgeColor}
+use Rattle.banded_rule.specs.forms.Columns.{bandAt, fromColumns}
+use Rattle.banded_rule.specs.forms.Steps.{firstColor, edgeColor}
 
 abbrev colors : List LegendBand → List ℕ
 colors = map (λ (b : LegendBand). b .color)
@@ -90,28 +90,28 @@ module _ (starts ends : List Float) (colors : List ℕ) where
   f = bandAt starts ends colors
 
   abbrev bands : ℕ → List LegendBand
-  bands = packed starts ends colors
+  bands = fromColumns starts ends colors
 
   pub plain-none : (count : ℕ) (u : UnmappableColors) (v : Float) → count ≡ 0 → plainColor (bands count) u v ≡ u .nodata
-  unfolding packed tabulate plainRule
+  unfolding fromColumns tabulate plainRule
   plain-none count u v e = ap (λ (n : ℕ). plainColor (bands n) u v) e
 
   -- the bands from the one at i on
   pub drop-band : (count i : ℕ) → i < count → drop i (bands count) ≡ f i ∷ drop (i + 1) (bands count)
-  unfolding packed
+  unfolding fromColumns
   drop-band count i h =
       drop-cons (tabulate count f) i (f 0) (omega (arith, length-tabulate count f))
       ∙ ap₂ (λ (b : LegendBand) (bs : List LegendBand). b ∷ bs) (getD-tabulate count f i (f 0) h) (ap (λ (n : ℕ). drop n (tabulate count f)) (sym (add-one i)))
 
   pub drop-end : (count i : ℕ) → count ≤ i → drop i (bands count) ≡ []
-  unfolding packed
+  unfolding fromColumns
   drop-end count i h = drop-of-length-le (tabulate count f) {i = i} (omega (arith, length-tabulate count f))
 
   pub last-is : (n : ℕ) → lastOf (f 0) (tabulate n (λ k. f (suc k))) ≡ f (suc n - 1)
   last-is n = let e : n ≡ suc n - 1 = omega arith in last-at f n ∙ ap f e
 
   pub plain-packed : (count : ℕ) (u : UnmappableColors) (v : Float) → 0 < count → plainColor (bands count) u v ≡ firstColor (bands count) v (edgeColor (f 0) (f (count - 1)) u v)
-  unfolding packed tabulate
+  unfolding fromColumns tabulate
   plain-packed zero u v h = absurd (omega arith)
   plain-packed (suc n) u v h = let bs = tabulate n (λ k. f (suc k)) in plain-form u (f 0) bs v ∙ ap (λ (l : LegendBand). firstColor (f 0 ∷ bs) v (edgeColor (f 0) l u v)) (last-is n)
 

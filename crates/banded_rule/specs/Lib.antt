@@ -1,3 +1,2 @@
 pub mod PlainRule
-pub mod Packed
-pub mod Parts
+pub mod forms

@@ -13,9 +13,9 @@ ghost use lib.ListN.{getD};
 ghost use Rattle.lists.specs.Lanes.{Lanes};
 ghost use Rattle.colormapper.specs.Tolerance.{within};
 ghost use Rattle.banded_columns.specs.Band.{holds};
-ghost use Rattle.banded_rule.specs.Packed.{bandAt, packed};
+ghost use Rattle.banded_rule.specs.forms.Columns.{bandAt, fromColumns};
 ghost use Rattle.banded_rule.specs.PlainRule.{plainColor};
-ghost use Rattle.banded_rule.specs.Parts.{firstColor, edgeColor};
+ghost use Rattle.banded_rule.specs.forms.Steps.{firstColor, edgeColor};
 
 // ---- the plain rule
 
@@ -29,7 +29,7 @@ pub fn color_for_numeric_value(
     value: f32,
 ) -> u32
     requires { ⌜ count ≤ 64 ⌝ }
-    ensures { λ r. ⌜ r ≡ plainColor (packed (now (starts .entry)) (now (ends .entry)) (now (colors .entry)) count) u value ⌝ }
+    ensures { λ r. ⌜ r ≡ plainColor (fromColumns (now (starts .entry)) (now (ends .entry)) (now (colors .entry)) count) u value ⌝ }
 {
     if count == 0 {
         return u.nodata;
@@ -57,7 +57,7 @@ pub fn colors_for_numeric_values(
     value: [f32; 16],
 ) -> [u32; 16]
     requires { ⌜ count ≤ 64 ⌝ }
-    ensures { λ r. ⌜ Lanes 0 16 r (λ k. plainColor (packed (now (starts .entry)) (now (ends .entry)) (now (colors .entry)) count) u (getD value k nan)) ⌝ }
+    ensures { λ r. ⌜ Lanes 0 16 r (λ k. plainColor (fromColumns (now (starts .entry)) (now (ends .entry)) (now (colors .entry)) count) u (getD value k nan)) ⌝ }
 {
     if count == 0 {
         return [u.nodata; 16];
@@ -79,7 +79,7 @@ fn first_colors(
     otherwise: [u32; 16],
 ) -> [u32; 16]
     requires { ⌜ count ≤ 64 ⌝ }
-    ensures { λ r. ⌜ Lanes 0 16 r (λ k. firstColor (packed (now (starts .entry)) (now (ends .entry)) (now (colors .entry)) count) (getD value k nan) (getD otherwise k 0)) ⌝ }
+    ensures { λ r. ⌜ Lanes 0 16 r (λ k. firstColor (fromColumns (now (starts .entry)) (now (ends .entry)) (now (colors .entry)) count) (getD value k nan) (getD otherwise k 0)) ⌝ }
 {
     let mut result = otherwise;
     let mut i = count;

@@ -12,7 +12,7 @@ use lib.Ieee.{Float, nan, le}
 use lib.Ieee.Fits.{and-l, and-r}
 use lib.ListN.{getD}
 use Rattle.floats.proofs.Order.{le-le}
-use Rattle.banded_search.specs.Apart.{apart}
+use Rattle.banded_search.specs.forms.Ascending.{apart}
 
 pub and-and : (a b c : Bool) → ((a && b) && c) ≡ (a && (b && c))
 and-and true b c = refl
@@ -27,17 +27,17 @@ module _ (starts ends : List Float) where
 
   -- band j starts below neither the start nor the end of band i
   pub record Clears (i j : ℕ) : Type 0 where
-    pub ascends : T (le (start i) (start j))
+    pub startsAscend : T (le (start i) (start j))
     pub past : T (le (end i) (start j))
 
   abbrev next : ℕ → Bool
   next n = le (start n) (start (suc n)) && le (end n) (start (suc n))
 
   next-clears : (n : ℕ) → T (next n) → Clears n (suc n)
-  next-clears n h = record { ascends = and-l (le (start n) (start (suc n))) (le (end n) (start (suc n))) h; past = and-r (le (start n) (start (suc n))) (le (end n) (start (suc n))) h }
+  next-clears n h = record { startsAscend = and-l (le (start n) (start (suc n))) (le (end n) (start (suc n))) h; past = and-r (le (start n) (start (suc n))) (le (end n) (start (suc n))) h }
 
   both-clear : (i j k : ℕ) → Clears i j → Clears j k → Clears i k
-  both-clear i j k p q = record { ascends = le-le (start i) (start j) (start k) (p .ascends) (q .ascends); past = le-le (end i) (start j) (start k) (p .past) (q .ascends) }
+  both-clear i j k p q = record { startsAscend = le-le (start i) (start j) (start k) (p .startsAscend) (q .startsAscend); past = le-le (end i) (start j) (start k) (p .past) (q .startsAscend) }
 
   pub later-clears : (count : ℕ) → T (apart starts ends count) → (i j : ℕ) → i < j → j < count → Clears i j
   unfolding apart

@@ -14,8 +14,8 @@ use lib.ListN.{getD}
 use mir.Val.{boolByte}
 use Rattle.lists.proofs.Numbers.{lt-or-le}
 use Rattle.floats.proofs.Order.{le-le, lt-le, lt-not-le}
-use Rattle.banded_search.specs.Apart.{apart}
-use Rattle.banded_search.specs.Place.{placeOf, heldAt}
+use Rattle.banded_search.specs.forms.Ascending.{apart}
+use Rattle.banded_search.specs.forms.Indices.{bandIndex, heldAt}
 use Rattle.banded_search.proofs.Ascent.{later-clears}
 
 at-most-one : (t : Bool) → cond t 1 0 ≤ 1
@@ -43,33 +43,33 @@ module _ (starts : List Float) (v : Float) where
   abbrev reached : ℕ → Bool
   reached j = le (start j) v
 
-  pub place-few : (i : ℕ) → i ≤ 1 → placeOf starts i v ≡ 0
-  unfolding placeOf
+  pub place-few : (i : ℕ) → i ≤ 1 → bandIndex starts i v ≡ 0
+  unfolding bandIndex
   place-few zero h = refl
   place-few (suc zero) h = refl
   place-few (suc (suc i)) h = absurd (omega arith)
 
-  pub place-more : (i : ℕ) → 0 < i → placeOf starts (i + 1) v ≡ placeOf starts i v + cond (reached i) 1 0
-  unfolding placeOf
+  pub place-more : (i : ℕ) → 0 < i → bandIndex starts (i + 1) v ≡ bandIndex starts i v + cond (reached i) 1 0
+  unfolding bandIndex
   place-more zero h = absurd (omega arith)
   place-more (suc n) h = rw (add-one (suc n))
 
-  at-most : (n : ℕ) → placeOf starts (suc n) v ≤ n
-  unfolding placeOf
+  at-most : (n : ℕ) → bandIndex starts (suc n) v ≤ n
+  unfolding bandIndex
   at-most zero = omega arith
   at-most (suc n) = omega (arith, at-most n, at-most-one (reached (suc n)))
 
-  pub place-below : (count : ℕ) → 0 < count → placeOf starts count v < count
+  pub place-below : (count : ℕ) → 0 < count → bandIndex starts count v < count
   place-below zero h = absurd (omega arith)
   place-below (suc n) h = omega (arith, at-most n)
 
-  pub place-in-arrays : (count : ℕ) → count ≤ 64 → placeOf starts count v < 64
+  pub place-in-arrays : (count : ℕ) → count ≤ 64 → bandIndex starts count v < 64
   place-in-arrays zero h = omega (arith, place-few 0 (omega arith))
   place-in-arrays (suc n) h = omega (arith, at-most n)
 
   -- all count where each is reached
-  all-count : (n : ℕ) → ((j : ℕ) → 0 < j → j ≤ n → T (reached j)) → placeOf starts (suc n) v ≡ n
-  unfolding placeOf
+  all-count : (n : ℕ) → ((j : ℕ) → 0 < j → j ≤ n → T (reached j)) → bandIndex starts (suc n) v ≡ n
+  unfolding bandIndex
   all-count zero h = refl
   all-count (suc n) h = omega (arith, all-count n (λ j p q. h j p (omega arith)), yes-is (reached (suc n)) (h (suc n) (omega arith) (omega arith)))
 
@@ -80,13 +80,13 @@ module _ (starts : List Float) (v : Float) where
 
   module _ (ends : List Float) where
     one-start-more : (n : ℕ) → T (apart starts ends (suc (suc n))) → (t : Bool) → (T t → T (reached (suc n))) → (T (not t) → T (not (reached (suc n)))) →
-        Stands (suc n) (placeOf starts (suc n) v) → Stands (suc (suc n)) (placeOf starts (suc n) v + cond t 1 0)
+        Stands (suc n) (bandIndex starts (suc n) v) → Stands (suc (suc n)) (bandIndex starts (suc n) v + cond t 1 0)
     one-start-more n a true f g s =
-        let e : placeOf starts (suc n) v ≡ n = all-count n (λ j p q. le-le (start j) (start (suc n)) v (later-clears starts ends (suc (suc n)) a j (suc n) (omega arith) (omega arith) .ascends) (f tt)) in
-        let d : suc n ≡ placeOf starts (suc n) v + 1 = omega arith in
+        let e : bandIndex starts (suc n) v ≡ n = all-count n (λ j p q. le-le (start j) (start (suc n)) v (later-clears starts ends (suc (suc n)) a j (suc n) (omega arith) (omega arith) .startsAscend) (f tt)) in
+        let d : suc n ≡ bandIndex starts (suc n) v + 1 = omega arith in
         record { here = λ p. subst (λ (k : ℕ). T (reached k)) d (f tt); later = λ j p q. absurd (omega arith) }
     one-start-more n a false f g s =
-        let e : placeOf starts (suc n) v ≡ placeOf starts (suc n) v + 0 = omega arith in
+        let e : bandIndex starts (suc n) v ≡ bandIndex starts (suc n) v + 0 = omega arith in
         record {
           here = λ p. subst (λ (k : ℕ). T (reached k)) e (s .here (omega arith));
           later = λ j p q. ⊎-elim
@@ -95,17 +95,17 @@ module _ (starts : List Float) (v : Float) where
               (eq-or-lt-of-le (omega arith));
         }
 
-    stands : (count : ℕ) → T (apart starts ends count) → Stands count (placeOf starts count v)
-    unfolding placeOf
+    stands : (count : ℕ) → T (apart starts ends count) → Stands count (bandIndex starts count v)
+    unfolding bandIndex
     stands zero a = record { here = λ p. absurd (omega arith); later = λ j p q. absurd (omega arith) }
     stands (suc zero) a = record { here = λ p. absurd (omega arith); later = λ j p q. absurd (omega arith) }
     stands (suc (suc n)) a = one-start-more n a (reached (suc n)) (λ h. h) (λ h. h) (stands (suc n) (unfold apart in and-l (apart starts ends (suc n)) _ a))
 
     -- no band but the one at the place holds the sample
-    pub no-other : (count : ℕ) → apart starts ends count ≡ true → (j : ℕ) → j < count → (j ≡ placeOf starts count v → ⊥) → T (not (heldAt starts ends j v))
+    pub no-other : (count : ℕ) → apart starts ends count ≡ true → (j : ℕ) → j < count → (j ≡ bandIndex starts count v → ⊥) → T (not (heldAt starts ends j v))
     no-other count e j q d =
         let a : T (apart starts ends count) = subst T (sym e) tt in
-        let p = placeOf starts count v in
+        let p = bandIndex starts count v in
         not-T (heldAt starts ends j v)
         (λ (h : T (heldAt starts ends j v)). elim (lt-or-le j p) [
           | inl l ↦ lt-not-le v (start p)

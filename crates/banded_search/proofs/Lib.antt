@@ -1,5 +1,5 @@
 pub mod OneBand
-pub mod ScanAtPlaces
+pub mod ScanByIndices
 pub mod Ascent
 pub mod Counting
-pub mod Placing
+pub mod Indexing

@@ -11,11 +11,11 @@ use Rattle.colormapper.specs.declared.UnmappableColors.{UnmappableColors}
 use Rattle.banded_columns.specs.declared.LegendBand.{LegendBand}
 use Rattle.banded_columns.specs.Band.{holds}
 use Rattle.banded_rule.specs.PlainRule.{plainColor}
-use Rattle.banded_rule.specs.Packed.{bandAt, packed}
-use Rattle.banded_rule.specs.Parts.{firstColor, edgeColor}
+use Rattle.banded_rule.specs.forms.Columns.{bandAt, fromColumns}
+use Rattle.banded_rule.specs.forms.Steps.{firstColor, edgeColor}
 use Rattle.banded_rule.proofs.Forms.{plain-packed}
-use Rattle.banded_search.specs.Apart.{apart}
-use Rattle.banded_search.specs.Place.{placeOf, colorAt}
+use Rattle.banded_search.specs.forms.Ascending.{apart}
+use Rattle.banded_search.specs.forms.Indices.{bandIndex, colorAt}
 use Rattle.banded_search.proofs.Counting.{place-below, no-other}
 
 no-is : (t : Bool) (x y : ℕ) → T (not t) → cond t x y ≡ y
@@ -38,15 +38,15 @@ module _ (v : Float) (otherwise : ℕ) where
 
 -- the plain rule's bands, by the place
 pub first-at-place : (starts ends : List Float) (colors : List ℕ) (count : ℕ) (v : Float) (otherwise : ℕ) → 0 < count → apart starts ends count ≡ true →
-    firstColor (packed starts ends colors count) v otherwise ≡ colorAt starts ends colors (placeOf starts count v) v otherwise
-unfolding packed
+    firstColor (fromColumns starts ends colors count) v otherwise ≡ colorAt starts ends colors (bandIndex starts count v) v otherwise
+unfolding fromColumns
 first-at-place starts ends colors count v otherwise p a =
-    first-one v otherwise count (bandAt starts ends colors) (placeOf starts count v) (place-below starts v count p) (no-other starts v ends count a)
+    first-one v otherwise count (bandAt starts ends colors) (bandIndex starts count v) (place-below starts v count p) (no-other starts v ends count a)
 
 -- the plain rule, by the place and by the colour of the edges
 pub plain-at-place : (starts ends : List Float) (colors : List ℕ) (count : ℕ) (u : UnmappableColors) (v : Float) {first last : LegendBand} {place edge : ℕ} → 0 < count → apart starts ends count ≡ true →
-    place ≡ placeOf starts count v → first ≡ bandAt starts ends colors 0 → last ≡ bandAt starts ends colors (count - 1) → edge ≡ edgeColor first last u v →
-    colorAt starts ends colors place v edge ≡ plainColor (packed starts ends colors count) u v
+    place ≡ bandIndex starts count v → first ≡ bandAt starts ends colors 0 → last ≡ bandAt starts ends colors (count - 1) → edge ≡ edgeColor first last u v →
+    colorAt starts ends colors place v edge ≡ plainColor (fromColumns starts ends colors count) u v
 plain-at-place starts ends colors count u v p a k x y e =
     ap₂ (λ (j c : ℕ). colorAt starts ends colors j v c) k (e ∙ ap₂ (λ (b d : LegendBand). edgeColor b d u v) x y)
     ∙ sym (first-at-place starts ends colors count v (edgeColor (bandAt starts ends colors 0) (bandAt starts ends colors (count - 1)) u v) p a)

@@ -6,11 +6,11 @@ ghost use Prim.Native.Nat.{_+_, _≤_};
 ghost use lib.Ieee.{nan, le};
 ghost use lib.ListN.{getD};
 ghost use Rattle.lists.specs.Lanes.{LanesOf};
-ghost use Rattle.banded_search.specs.Apart.{apart};
-ghost use Rattle.banded_search.specs.Place.{InArrays, Placed};
+ghost use Rattle.banded_search.specs.forms.Ascending.{apart};
+ghost use Rattle.banded_search.specs.forms.Indices.{IndicesInBounds, BandIndices};
 
 // Whether no counted band starts below the start or the end of the one before it: asked once a painting.
-pub fn apart(starts: &[f32; 64], ends: &[f32; 64], count: usize) -> bool
+pub fn ascending_disjoint(starts: &[f32; 64], ends: &[f32; 64], count: usize) -> bool
     requires { ⌜ count ≤ 64 ⌝ }
     ensures { λ r. ⌜ r ≡ apart (now (starts .entry)) (now (ends .entry)) count ⌝ }
 {
@@ -27,14 +27,14 @@ pub fn apart(starts: &[f32; 64], ends: &[f32; 64], count: usize) -> bool
 // ---- the places of lanes, for a lane count that is a literal of the caller's: so they are vectorised
 
 // The place of the one band that can hold each lane's sample: a band that starts above the sample does not count.
-pub fn places_of(lanes: usize, starts: &[f32; 64], count: usize, value: [f32; 16]) -> [u32; 16]
+pub fn band_indices(lanes: usize, starts: &[f32; 64], count: usize, value: [f32; 16]) -> [u32; 16]
     requires { ⌜ (lanes ≤ 16) × (count ≤ 64) ⌝ }
-    ensures { λ r. ⌜ Placed lanes (now (starts .entry)) count value r ⌝ }
+    ensures { λ r. ⌜ BandIndices lanes (now (starts .entry)) count value r ⌝ }
 {
     let mut result = [0u32; 16];
     let mut i: usize = 1;
     while i < count {
-        let next = moved(lanes, starts[i], value, result);
+        let next = advance_indices(lanes, starts[i], value, result);
         result = next;
         i += 1;
     }
@@ -42,8 +42,8 @@ pub fn places_of(lanes: usize, starts: &[f32; 64], count: usize, value: [f32; 16
 }
 
 // Each lane's place moved on where a start is not above its sample.
-fn moved(lanes: usize, start: f32, value: [f32; 16], places: [u32; 16]) -> [u32; 16]
-    requires { ⌜ (lanes ≤ 16) × InArrays lanes places ⌝ }
+fn advance_indices(lanes: usize, start: f32, value: [f32; 16], places: [u32; 16]) -> [u32; 16]
+    requires { ⌜ (lanes ≤ 16) × IndicesInBounds lanes places ⌝ }
     ensures { λ r. ⌜ LanesOf 0 lanes (λ k. getD places k 0 + cond (le start (getD value k nan)) 1 0) r ⌝ }
 {
     let mut result = [0u32; 16];

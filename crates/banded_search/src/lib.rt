@@ -9,11 +9,11 @@ ghost use Prim.Native.Nat.{_≤_};
 ghost use lib.Ieee.{nan};
 ghost use lib.ListN.{getD};
 ghost use Rattle.lists.specs.Lanes.{LanesOf};
-ghost use Rattle.banded_rule.specs.Packed.{packed};
+ghost use Rattle.banded_rule.specs.forms.Columns.{fromColumns};
 ghost use Rattle.banded_rule.specs.PlainRule.{plainColor};
-ghost use Rattle.banded_lanes.specs.Parts.{allBelow};
-ghost use Rattle.banded_search.specs.Apart.{apart};
-ghost use Rattle.banded_search.specs.Place.{heldAt, colorAt, InArrays};
+ghost use Rattle.banded_lanes.specs.forms.Scanning.{allBelow};
+ghost use Rattle.banded_search.specs.forms.Ascending.{apart};
+ghost use Rattle.banded_search.specs.forms.Indices.{heldAt, colorAt, IndicesInBounds};
 
 // The colours of sixteen samples at once, by the plain rule.
 pub fn colors_for_numeric_values(
@@ -25,7 +25,7 @@ pub fn colors_for_numeric_values(
     value: [f32; 16],
 ) -> [u32; 16]
     requires { ⌜ (count ≤ 64) × (apart (now starts) (now ends) count ≡ true) ⌝ }
-    ensures { λ r. ⌜ LanesOf 0 16 (λ k. plainColor (packed (now (starts .entry)) (now (ends .entry)) (now (colors .entry)) count) u (getD value k nan)) r ⌝ }
+    ensures { λ r. ⌜ LanesOf 0 16 (λ k. plainColor (fromColumns (now (starts .entry)) (now (ends .entry)) (now (colors .entry)) count) u (getD value k nan)) r ⌝ }
 {
     if count == 0 {
         return [u.nodata; 16];
@@ -33,7 +33,7 @@ pub fn colors_for_numeric_values(
     let first = banded_rule::band_at(starts, ends, colors, 0);
     let last = banded_rule::band_at(starts, ends, colors, count - 1);
     let edged = banded_rule::edge_colors(first, last, u, value);
-    let places = indices::places_of(16, starts, count, value);
+    let places = indices::band_indices(16, starts, count, value);
     colors_at(16, starts, ends, colors, places, value, edged)
 }
 
@@ -49,7 +49,7 @@ pub fn colors_at(
     value: [f32; 16],
     otherwise: [u32; 16],
 ) -> [u32; 16]
-    requires { ⌜ (lanes ≤ 16) × InArrays lanes places ⌝ }
+    requires { ⌜ (lanes ≤ 16) × IndicesInBounds lanes places ⌝ }
     ensures { λ r. ⌜ LanesOf 0 lanes (λ k. colorAt (now (starts .entry)) (now (ends .entry)) (now (colors .entry)) (getD places k 0) (getD value k nan) (getD otherwise k 0)) r ⌝ }
 {
     let mut result = [0u32; 16];
@@ -71,7 +71,7 @@ pub fn all_held(
     places: [u32; 16],
     value: [f32; 16],
 ) -> bool
-    requires { ⌜ (lanes ≤ 16) × InArrays lanes places ⌝ }
+    requires { ⌜ (lanes ≤ 16) × IndicesInBounds lanes places ⌝ }
     ensures { λ r. ⌜ r ≡ allBelow lanes (λ k. heldAt (now (starts .entry)) (now (ends .entry)) (getD places k 0) (getD value k nan)) ⌝ }
 {
     let mut all = true;

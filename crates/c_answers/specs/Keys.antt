@@ -4,6 +4,6 @@ use Rattle.cast.specs.declared.Truncated.{Truncated}
 use Rattle.cast.specs.declared.Truncated.the-variants.{Whole, Outside}
 use Rattle.c_answers.specs.declared.keys.LegendKey.{LegendKey}
 
-abbrev pub keyOf : Truncated → LegendKey
-keyOf (Whole k) = record { key = k; whole = 1 }
-keyOf Outside = record { key = pos 0; whole = 0 }
+abbrev pub keyToC : Truncated → LegendKey
+keyToC (Whole k) = record { key = k; whole = 1 }
+keyToC Outside = record { key = pos 0; whole = 0 }

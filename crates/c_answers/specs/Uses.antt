@@ -12,18 +12,18 @@ use Rattle.legend_apply.specs.declared.ColorList.{ColorList}
 use Rattle.c_answers.specs.declared.colors.LegendColor.{LegendColor}
 use Rattle.c_answers.specs.declared.uses.LegendValueRange.{LegendValueRange}
 use Rattle.c_answers.specs.declared.uses.LegendColorList.{LegendColorList}
-use Rattle.c_types.specs.Answers.{answerOf}
+use Rattle.c_types.specs.Answers.{answerToC}
 
 unfoldable pub pixelToC : (first : Answer) → PixelColor → LegendColor
-pixelToC first p = record { answer = answerOf (firstOf first (pixelAnswer p)); color = ifDone first (pixelWord p) 0 }
+pixelToC first p = record { answer = answerToC (firstOf first (pixelAnswer p)); color = ifDone first (pixelWord p) 0 }
 
 unfoldable pub rangeToC : (first : Answer) → TotalRange → LegendValueRange
 rangeToC first r =
     record {
-      answer = answerOf (firstOf first (rangeAnswer r));
+      answer = answerToC (firstOf first (rangeAnswer r));
       start = ifDone first (rangeValues r .start) nought;
       end = ifDone first (rangeValues r .end) nought;
     }
 
 unfoldable pub listToC : (first : Answer) → ColorList → LegendColorList
-listToC first l = record { answer = answerOf (firstOf first (l .answer)); colors = ifDone first (l .colors) (replicate 256 0) }
+listToC first l = record { answer = answerToC (firstOf first (l .answer)); colors = ifDone first (l .colors) (replicate 256 0) }

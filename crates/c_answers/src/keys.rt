@@ -1,7 +1,7 @@
 // A sample as a key.
 use cast::Truncated;
 ghost use mathlib.Core.Path.{_≡_};
-ghost use Rattle.c_answers.specs.Keys.{keyOf};
+ghost use Rattle.c_answers.specs.Keys.{keyToC};
 
 // A sample cut toward zero: `whole` is 1 where that is an i64, else 0 beside the key 0.
 #[repr(C)]
@@ -11,7 +11,7 @@ pub struct LegendKey {
 }
 
 pub fn key_to_c(cut: Truncated) -> LegendKey
-    ensures { λ r. ⌜ r ≡ keyOf cut ⌝ }
+    ensures { λ r. ⌜ r ≡ keyToC cut ⌝ }
 {
     match cut {
         Truncated::Whole(key) => LegendKey { key, whole: 1 },

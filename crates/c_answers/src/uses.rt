@@ -26,7 +26,7 @@ pub struct LegendColorList {
 
 // A call's own arguments are refused by `first`, before anything else is.
 
-fn pixel_alone(pixel: PixelColor) -> LegendColor
+fn pixel_or_refusal(pixel: PixelColor) -> LegendColor
     ensures { λ r. ⌜ r ≡ pixelToC Answer.Done pixel ⌝ }
 {
     match pixel {
@@ -49,11 +49,11 @@ pub fn pixel_to_c(first: Answer, pixel: PixelColor) -> LegendColor
             answer: answer::to_c(first),
             color: 0,
         },
-        Answer::Done => pixel_alone(pixel),
+        Answer::Done => pixel_or_refusal(pixel),
     }
 }
 
-fn range_alone(range: TotalRange) -> LegendValueRange
+fn range_or_refusal(range: TotalRange) -> LegendValueRange
     ensures { λ r. ⌜ r ≡ rangeToC Answer.Done range ⌝ }
 {
     match range {
@@ -79,7 +79,7 @@ pub fn range_to_c(first: Answer, range: TotalRange) -> LegendValueRange
             start: 0.0,
             end: 0.0,
         },
-        Answer::Done => range_alone(range),
+        Answer::Done => range_or_refusal(range),
     }
 }
 

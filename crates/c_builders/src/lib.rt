@@ -16,8 +16,8 @@ ghost use Rattle.banded.specs.EqualBands.{withEqualBands};
 ghost use Rattle.banded.specs.ManualRanges.{withManualRanges};
 ghost use Rattle.banded.specs.Given.{withBandsGiven};
 ghost use Rattle.catgegoric.specs.Made.{forValues, forValuesFromRamp, forValueRange, forValueRangeFromRamp};
-ghost use Rattle.legend_builders.specs.Building.{madeLinear, madeBanded, madeCategoric};
-ghost use Rattle.c_types.specs.Settings.{settingsOf};
+ghost use Rattle.legend_builders.specs.Building.{linearWithSettings, bandedWithSettings, categoricWithSettings};
+ghost use Rattle.c_types.specs.Settings.{settingsFromC};
 ghost use Rattle.c_types.specs.Refusals.{settingsRefusal};
 ghost use Rattle.c_records.specs.Records.{madeToC};
 
@@ -28,9 +28,9 @@ pub extern "C" fn legend_create_linear(
     end: f32,
     settings: LegendSettings,
 ) -> LegendMade
-    ensures { λ r. ⌜ r ≡ madeToC (settingsRefusal settings) (madeLinear (linearOfList start end (now (colors .entry))) (settingsOf settings)) ⌝ }
+    ensures { λ r. ⌜ r ≡ madeToC (settingsRefusal settings) (linearWithSettings (linearOfList start end (now (colors .entry))) (settingsFromC settings)) ⌝ }
 {
-    let config = settings::settings_of(settings);
+    let config = settings::settings_from_c(settings);
     let made = legend_builders::create_linear(colors, start, end, config);
     record::made_to_c(refusals::settings_refusal(settings), made)
 }
@@ -42,10 +42,10 @@ pub extern "C" fn legend_create_linear_from_ramp(
     end: f32,
     settings: LegendSettings,
 ) -> LegendMade
-    ensures { λ r. ⌜ r ≡ madeToC (settingsRefusal settings) (madeLinear (linearOfRamp start end (now (ramp .entry))) (settingsOf settings)) ⌝ }
+    ensures { λ r. ⌜ r ≡ madeToC (settingsRefusal settings) (linearWithSettings (linearOfRamp start end (now (ramp .entry))) (settingsFromC settings)) ⌝ }
 {
     let map = ProcessedColorMap { cmap: *ramp };
-    let config = settings::settings_of(settings);
+    let config = settings::settings_from_c(settings);
     let made = legend_builders::create_linear_from_ramp(map, start, end, config);
     record::made_to_c(refusals::settings_refusal(settings), made)
 }
@@ -58,9 +58,9 @@ pub extern "C" fn legend_create_banded(
     end: f32,
     settings: LegendSettings,
 ) -> LegendMade
-    ensures { λ r. ⌜ r ≡ madeToC (settingsRefusal settings) (madeBanded (withEqualBands count start end (now (colors .entry))) (settingsOf settings)) ⌝ }
+    ensures { λ r. ⌜ r ≡ madeToC (settingsRefusal settings) (bandedWithSettings (withEqualBands count start end (now (colors .entry))) (settingsFromC settings)) ⌝ }
 {
-    let config = settings::settings_of(settings);
+    let config = settings::settings_from_c(settings);
     let made = legend_builders::create_banded(count, colors, start, end, config);
     record::made_to_c(refusals::settings_refusal(settings), made)
 }
@@ -73,9 +73,9 @@ pub extern "C" fn legend_create_banded_from_ramp(
     end: f32,
     settings: LegendSettings,
 ) -> LegendMade
-    ensures { λ r. ⌜ r ≡ madeToC (settingsRefusal settings) (madeBanded (withEqualBands count start end (rampColors count (now (ramp .entry)))) (settingsOf settings)) ⌝ }
+    ensures { λ r. ⌜ r ≡ madeToC (settingsRefusal settings) (bandedWithSettings (withEqualBands count start end (rampColors count (now (ramp .entry)))) (settingsFromC settings)) ⌝ }
 {
-    let config = settings::settings_of(settings);
+    let config = settings::settings_from_c(settings);
     let made = legend_builders::create_banded_from_ramp(count, ramp, start, end, config);
     record::made_to_c(refusals::settings_refusal(settings), made)
 }
@@ -86,9 +86,9 @@ pub extern "C" fn legend_create_banded_manual_ranges(
     ranges: ValueRanges,
     settings: LegendSettings,
 ) -> LegendMade
-    ensures { λ r. ⌜ r ≡ madeToC (settingsRefusal settings) (madeBanded (withManualRanges ranges (now (colors .entry))) (settingsOf settings)) ⌝ }
+    ensures { λ r. ⌜ r ≡ madeToC (settingsRefusal settings) (bandedWithSettings (withManualRanges ranges (now (colors .entry))) (settingsFromC settings)) ⌝ }
 {
-    let config = settings::settings_of(settings);
+    let config = settings::settings_from_c(settings);
     let made = legend_builders::create_banded_manual_ranges(colors, ranges, config);
     record::made_to_c(refusals::settings_refusal(settings), made)
 }
@@ -99,9 +99,9 @@ pub extern "C" fn legend_create_banded_manual_ranges_from_ramp(
     ranges: ValueRanges,
     settings: LegendSettings,
 ) -> LegendMade
-    ensures { λ r. ⌜ r ≡ madeToC (settingsRefusal settings) (madeBanded (withManualRanges ranges (rampColors (ranges .count) (now (ramp .entry)))) (settingsOf settings)) ⌝ }
+    ensures { λ r. ⌜ r ≡ madeToC (settingsRefusal settings) (bandedWithSettings (withManualRanges ranges (rampColors (ranges .count) (now (ramp .entry)))) (settingsFromC settings)) ⌝ }
 {
-    let config = settings::settings_of(settings);
+    let config = settings::settings_from_c(settings);
     let made = legend_builders::create_banded_manual_ranges_from_ramp(ramp, ranges, config);
     record::made_to_c(refusals::settings_refusal(settings), made)
 }
@@ -112,16 +112,16 @@ pub extern "C" fn legend_create_banded_as_given(
     bands: &[LegendBand],
     settings: LegendSettings,
 ) -> LegendMade
-    ensures { λ r. ⌜ r ≡ madeToC (settingsRefusal settings) (madeBanded (withBandsGiven (now (bands .entry))) (settingsOf settings)) ⌝ }
+    ensures { λ r. ⌜ r ≡ madeToC (settingsRefusal settings) (bandedWithSettings (withBandsGiven (now (bands .entry))) (settingsFromC settings)) ⌝ }
 {
     bands_made(Banded::new(bands), settings)
 }
 
 fn bands_made(given: MadeBanded, settings: LegendSettings) -> LegendMade
-    ensures { λ r. ⌜ r ≡ madeToC (settingsRefusal settings) (madeBanded given (settingsOf settings)) ⌝ }
+    ensures { λ r. ⌜ r ≡ madeToC (settingsRefusal settings) (bandedWithSettings given (settingsFromC settings)) ⌝ }
 {
-    let config = settings::settings_of(settings);
-    let made = legend_builders::made_banded(given, config);
+    let config = settings::settings_from_c(settings);
+    let made = legend_builders::banded_with_settings(given, config);
     record::made_to_c(refusals::settings_refusal(settings), made)
 }
 
@@ -131,9 +131,9 @@ pub extern "C" fn legend_create_categoric_for_value_list(
     values: &[i64],
     settings: LegendSettings,
 ) -> LegendMade
-    ensures { λ r. ⌜ r ≡ madeToC (settingsRefusal settings) (madeCategoric (forValues (now (values .entry)) (now (colors .entry))) (settingsOf settings)) ⌝ }
+    ensures { λ r. ⌜ r ≡ madeToC (settingsRefusal settings) (categoricWithSettings (forValues (now (values .entry)) (now (colors .entry))) (settingsFromC settings)) ⌝ }
 {
-    let config = settings::settings_of(settings);
+    let config = settings::settings_from_c(settings);
     let made = legend_builders::create_categoric_for_value_list(colors, values, config);
     record::made_to_c(refusals::settings_refusal(settings), made)
 }
@@ -144,9 +144,9 @@ pub extern "C" fn legend_create_categoric_for_value_list_from_ramp(
     values: &[i64],
     settings: LegendSettings,
 ) -> LegendMade
-    ensures { λ r. ⌜ r ≡ madeToC (settingsRefusal settings) (madeCategoric (forValuesFromRamp (now (values .entry)) (now (ramp .entry))) (settingsOf settings)) ⌝ }
+    ensures { λ r. ⌜ r ≡ madeToC (settingsRefusal settings) (categoricWithSettings (forValuesFromRamp (now (values .entry)) (now (ramp .entry))) (settingsFromC settings)) ⌝ }
 {
-    let config = settings::settings_of(settings);
+    let config = settings::settings_from_c(settings);
     let made = legend_builders::create_categoric_for_value_list_from_ramp(ramp, values, config);
     record::made_to_c(refusals::settings_refusal(settings), made)
 }
@@ -158,9 +158,9 @@ pub extern "C" fn legend_create_categoric_for_value_range(
     end: i64,
     settings: LegendSettings,
 ) -> LegendMade
-    ensures { λ r. ⌜ r ≡ madeToC (settingsRefusal settings) (madeCategoric (forValueRange start end (now (colors .entry))) (settingsOf settings)) ⌝ }
+    ensures { λ r. ⌜ r ≡ madeToC (settingsRefusal settings) (categoricWithSettings (forValueRange start end (now (colors .entry))) (settingsFromC settings)) ⌝ }
 {
-    let config = settings::settings_of(settings);
+    let config = settings::settings_from_c(settings);
     let made = legend_builders::create_categoric_for_value_range(colors, start, end, config);
     record::made_to_c(refusals::settings_refusal(settings), made)
 }
@@ -172,9 +172,9 @@ pub extern "C" fn legend_create_categoric_for_value_range_from_ramp(
     end: i64,
     settings: LegendSettings,
 ) -> LegendMade
-    ensures { λ r. ⌜ r ≡ madeToC (settingsRefusal settings) (madeCategoric (forValueRangeFromRamp start end (now (ramp .entry))) (settingsOf settings)) ⌝ }
+    ensures { λ r. ⌜ r ≡ madeToC (settingsRefusal settings) (categoricWithSettings (forValueRangeFromRamp start end (now (ramp .entry))) (settingsFromC settings)) ⌝ }
 {
-    let config = settings::settings_of(settings);
+    let config = settings::settings_from_c(settings);
     let made = legend_builders::create_categoric_for_value_range_from_ramp(
         ramp,
         start,

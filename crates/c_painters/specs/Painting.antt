@@ -10,26 +10,26 @@ use Rattle.painting.specs.Contracts.{Painter, refusedFirst, plainAnswer, laneAn
 use Rattle.banded.specs.declared.Banded.{Banded}
 use Rattle.legend.specs.declared.Legend.{Legend}
 use Rattle.legend.specs.Painters.{painter}
-use Rattle.legend_view.specs.Lent.{lentLegend}
+use Rattle.legend_view.specs.Borrowed.{borrowedLegend}
 use Rattle.c_types.specs.declared.answer.LegendAnswer.{LegendAnswer}
-use Rattle.c_types.specs.Answers.{answerOf}
+use Rattle.c_types.specs.Answers.{answerToC}
 use Rattle.c_types.specs.Refusals.{useRefusal}
-use Rattle.c_records.specs.declared.head.LegendHead.{LegendHead}
-use Rattle.c_records.specs.Heads.{headGiven}
+use Rattle.c_records.specs.declared.view.LegendView.{LegendView}
+use Rattle.c_records.specs.Views.{viewFromC}
 
 -- the legend that is lent
-abbrev pub legendLent : LegendHead → Banded → (cmap : List ℕ) (keys : List ℤ) (colors lookup : List ℕ) → Legend
-legendLent head banded cmap keys colors lookup = lentLegend (headGiven head banded) cmap keys colors lookup
+abbrev pub legendOfView : LegendView → Banded → (cmap : List ℕ) (keys : List ℤ) (colors lookup : List ℕ) → Legend
+legendOfView view banded cmap keys colors lookup = borrowedLegend (viewFromC view banded) cmap keys colors lookup
 
-abbrev pub painterLent : LegendHead → Banded → (cmap : List ℕ) (keys : List ℤ) (colors lookup : List ℕ) → (nodataGiven : ℕ) → Nodata → Painter
-painterLent head banded cmap keys colors lookup nodataGiven nodata =
-    refusedFirst (useRefusal (head .settings) (head .kind) nodataGiven) (painter (legendLent head banded cmap keys colors lookup) nodata)
+abbrev pub painterOfView : LegendView → Banded → (cmap : List ℕ) (keys : List ℤ) (colors lookup : List ℕ) → (nodataGiven : ℕ) → Nodata → Painter
+painterOfView view banded cmap keys colors lookup nodataGiven nodata =
+    refusedFirst (useRefusal (view .settings) (view .kind) nodataGiven) (painter (legendOfView view banded cmap keys colors lookup) nodata)
 
 -- what a call leaves: its result, and the painting that this result is the answer of
 pub record PlainOutcome (p : Painter) (xs : List Float) (out : List ℕ) (result : LegendAnswer) (out' : List ℕ) : Type 0 where
-  pub answer : result ≡ answerOf (plainAnswer p xs out)
+  pub answer : result ≡ answerToC (plainAnswer p xs out)
   pub painting : PlainPainting p xs out (plainAnswer p xs out) out'
 
 pub record LaneOutcome (p : Painter) (L : ℕ) (xs : List Float) (out scratch : List ℕ) (result : LegendAnswer) (out' scratch' : List ℕ) : Type 0 where
-  pub answer : result ≡ answerOf (laneAnswer p L xs out scratch)
+  pub answer : result ≡ answerToC (laneAnswer p L xs out scratch)
   pub painting : LanePainting p L xs out scratch (laneAnswer p L xs out scratch) out' scratch'

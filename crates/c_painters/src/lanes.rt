@@ -1,7 +1,7 @@
 // Painting in lanes.
 use banded::Banded;
-use c_records::head;
-use c_records::head::LegendHead;
+use c_records::view;
+use c_records::view::LegendView;
 use c_types::answer;
 use c_types::answer::LegendAnswer;
 use c_types::refusals;
@@ -11,11 +11,11 @@ ghost use mathlib.Core.List.{map};
 ghost use Rattle.cast.specs.Samples.{ofU8, ofI16};
 ghost use Rattle.cast.specs.Nodata.{nodataU8, nodataI16};
 ghost use Rattle.c_types.specs.Samples.{nodataIf, nodataIfU8, nodataIfI16};
-ghost use Rattle.c_painters.specs.Painting.{painterLent, LaneOutcome};
+ghost use Rattle.c_painters.specs.Painting.{painterOfView, LaneOutcome};
 
 #[no_mangle]
-pub extern "C" fn legend_lent_paint_lanes_f32(
-    head: LegendHead,
+pub extern "C" fn legend_view_paint_lanes_f32(
+    view: LegendView,
     banded: Banded,
     cmap: &[u32; 256],
     keys: &[i64; 256],
@@ -28,14 +28,14 @@ pub extern "C" fn legend_lent_paint_lanes_f32(
     out: &mut [u32],
     scratch: &mut [u32],
 ) -> LegendAnswer
-    ensures { λ r. ⌜ LaneOutcome (painterLent head banded (now (cmap .entry)) (now (keys .entry)) (now (colors .entry)) (now (lookup .entry)) «nodata_given» (nodataIf «nodata_given» nodata)) lanes (now (src .entry)) (now (out .entry)) (now (scratch .entry)) r (now (out .exit)) (now (scratch .exit)) ⌝ }
+    ensures { λ r. ⌜ LaneOutcome (painterOfView view banded (now (cmap .entry)) (now (keys .entry)) (now (colors .entry)) (now (lookup .entry)) «nodata_given» (nodataIf «nodata_given» nodata)) lanes (now (src .entry)) (now (out .entry)) (now (scratch .entry)) r (now (out .exit)) (now (scratch .exit)) ⌝ }
 {
-    let first = refusals::use_refusal(head.settings, head.kind, nodata_given);
+    let first = refusals::use_refusal(view.settings, view.kind, nodata_given);
     if let Answer::Refused(_) = first {
         return answer::to_c(first);
     }
     answer::to_c(legend_kernel::apply_to_data_kernel(
-        head::head_given(head, banded),
+        view::view_from_c(view, banded),
         cmap,
         keys,
         colors,
@@ -49,8 +49,8 @@ pub extern "C" fn legend_lent_paint_lanes_f32(
 }
 
 #[no_mangle]
-pub extern "C" fn legend_lent_paint_lanes_u8(
-    head: LegendHead,
+pub extern "C" fn legend_view_paint_lanes_u8(
+    view: LegendView,
     banded: Banded,
     cmap: &[u32; 256],
     keys: &[i64; 256],
@@ -63,14 +63,14 @@ pub extern "C" fn legend_lent_paint_lanes_u8(
     out: &mut [u32],
     scratch: &mut [u32],
 ) -> LegendAnswer
-    ensures { λ r. ⌜ LaneOutcome (painterLent head banded (now (cmap .entry)) (now (keys .entry)) (now (colors .entry)) (now (lookup .entry)) «nodata_given» (nodataU8 (nodataIfU8 «nodata_given» nodata))) lanes (map ofU8 (now (src .entry))) (now (out .entry)) (now (scratch .entry)) r (now (out .exit)) (now (scratch .exit)) ⌝ }
+    ensures { λ r. ⌜ LaneOutcome (painterOfView view banded (now (cmap .entry)) (now (keys .entry)) (now (colors .entry)) (now (lookup .entry)) «nodata_given» (nodataU8 (nodataIfU8 «nodata_given» nodata))) lanes (map ofU8 (now (src .entry))) (now (out .entry)) (now (scratch .entry)) r (now (out .exit)) (now (scratch .exit)) ⌝ }
 {
-    let first = refusals::use_refusal(head.settings, head.kind, nodata_given);
+    let first = refusals::use_refusal(view.settings, view.kind, nodata_given);
     if let Answer::Refused(_) = first {
         return answer::to_c(first);
     }
     answer::to_c(legend_kernel::apply_to_data_kernel_u8(
-        head::head_given(head, banded),
+        view::view_from_c(view, banded),
         cmap,
         keys,
         colors,
@@ -84,8 +84,8 @@ pub extern "C" fn legend_lent_paint_lanes_u8(
 }
 
 #[no_mangle]
-pub extern "C" fn legend_lent_paint_lanes_i16(
-    head: LegendHead,
+pub extern "C" fn legend_view_paint_lanes_i16(
+    view: LegendView,
     banded: Banded,
     cmap: &[u32; 256],
     keys: &[i64; 256],
@@ -98,14 +98,14 @@ pub extern "C" fn legend_lent_paint_lanes_i16(
     out: &mut [u32],
     scratch: &mut [u32],
 ) -> LegendAnswer
-    ensures { λ r. ⌜ LaneOutcome (painterLent head banded (now (cmap .entry)) (now (keys .entry)) (now (colors .entry)) (now (lookup .entry)) «nodata_given» (nodataI16 (nodataIfI16 «nodata_given» nodata))) lanes (map ofI16 (now (src .entry))) (now (out .entry)) (now (scratch .entry)) r (now (out .exit)) (now (scratch .exit)) ⌝ }
+    ensures { λ r. ⌜ LaneOutcome (painterOfView view banded (now (cmap .entry)) (now (keys .entry)) (now (colors .entry)) (now (lookup .entry)) «nodata_given» (nodataI16 (nodataIfI16 «nodata_given» nodata))) lanes (map ofI16 (now (src .entry))) (now (out .entry)) (now (scratch .entry)) r (now (out .exit)) (now (scratch .exit)) ⌝ }
 {
-    let first = refusals::use_refusal(head.settings, head.kind, nodata_given);
+    let first = refusals::use_refusal(view.settings, view.kind, nodata_given);
     if let Answer::Refused(_) = first {
         return answer::to_c(first);
     }
     answer::to_c(legend_kernel::apply_to_data_kernel_i16(
-        head::head_given(head, banded),
+        view::view_from_c(view, banded),
         cmap,
         keys,
         colors,

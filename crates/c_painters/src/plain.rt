@@ -1,7 +1,7 @@
 // Plain painting.
 use banded::Banded;
-use c_records::head;
-use c_records::head::LegendHead;
+use c_records::view;
+use c_records::view::LegendView;
 use c_types::answer;
 use c_types::answer::LegendAnswer;
 use c_types::refusals;
@@ -11,11 +11,11 @@ ghost use mathlib.Core.List.{map};
 ghost use Rattle.cast.specs.Samples.{ofU8, ofI16};
 ghost use Rattle.cast.specs.Nodata.{nodataU8, nodataI16};
 ghost use Rattle.c_types.specs.Samples.{nodataIf, nodataIfU8, nodataIfI16};
-ghost use Rattle.c_painters.specs.Painting.{painterLent, PlainOutcome};
+ghost use Rattle.c_painters.specs.Painting.{painterOfView, PlainOutcome};
 
 #[no_mangle]
-pub extern "C" fn legend_lent_paint_f32(
-    head: LegendHead,
+pub extern "C" fn legend_view_paint_f32(
+    view: LegendView,
     banded: Banded,
     cmap: &[u32; 256],
     keys: &[i64; 256],
@@ -26,14 +26,14 @@ pub extern "C" fn legend_lent_paint_f32(
     nodata: f32,
     out: &mut [u32],
 ) -> LegendAnswer
-    ensures { λ r. ⌜ PlainOutcome (painterLent head banded (now (cmap .entry)) (now (keys .entry)) (now (colors .entry)) (now (lookup .entry)) «nodata_given» (nodataIf «nodata_given» nodata)) (now (src .entry)) (now (out .entry)) r (now (out .exit)) ⌝ }
+    ensures { λ r. ⌜ PlainOutcome (painterOfView view banded (now (cmap .entry)) (now (keys .entry)) (now (colors .entry)) (now (lookup .entry)) «nodata_given» (nodataIf «nodata_given» nodata)) (now (src .entry)) (now (out .entry)) r (now (out .exit)) ⌝ }
 {
-    let first = refusals::use_refusal(head.settings, head.kind, nodata_given);
+    let first = refusals::use_refusal(view.settings, view.kind, nodata_given);
     if let Answer::Refused(_) = first {
         return answer::to_c(first);
     }
     answer::to_c(legend_scalar::apply_to_data_scalar(
-        head::head_given(head, banded),
+        view::view_from_c(view, banded),
         cmap,
         keys,
         colors,
@@ -45,8 +45,8 @@ pub extern "C" fn legend_lent_paint_f32(
 }
 
 #[no_mangle]
-pub extern "C" fn legend_lent_paint_u8(
-    head: LegendHead,
+pub extern "C" fn legend_view_paint_u8(
+    view: LegendView,
     banded: Banded,
     cmap: &[u32; 256],
     keys: &[i64; 256],
@@ -57,14 +57,14 @@ pub extern "C" fn legend_lent_paint_u8(
     nodata: u8,
     out: &mut [u32],
 ) -> LegendAnswer
-    ensures { λ r. ⌜ PlainOutcome (painterLent head banded (now (cmap .entry)) (now (keys .entry)) (now (colors .entry)) (now (lookup .entry)) «nodata_given» (nodataU8 (nodataIfU8 «nodata_given» nodata))) (map ofU8 (now (src .entry))) (now (out .entry)) r (now (out .exit)) ⌝ }
+    ensures { λ r. ⌜ PlainOutcome (painterOfView view banded (now (cmap .entry)) (now (keys .entry)) (now (colors .entry)) (now (lookup .entry)) «nodata_given» (nodataU8 (nodataIfU8 «nodata_given» nodata))) (map ofU8 (now (src .entry))) (now (out .entry)) r (now (out .exit)) ⌝ }
 {
-    let first = refusals::use_refusal(head.settings, head.kind, nodata_given);
+    let first = refusals::use_refusal(view.settings, view.kind, nodata_given);
     if let Answer::Refused(_) = first {
         return answer::to_c(first);
     }
     answer::to_c(legend_scalar::apply_to_data_scalar_u8(
-        head::head_given(head, banded),
+        view::view_from_c(view, banded),
         cmap,
         keys,
         colors,
@@ -76,8 +76,8 @@ pub extern "C" fn legend_lent_paint_u8(
 }
 
 #[no_mangle]
-pub extern "C" fn legend_lent_paint_i16(
-    head: LegendHead,
+pub extern "C" fn legend_view_paint_i16(
+    view: LegendView,
     banded: Banded,
     cmap: &[u32; 256],
     keys: &[i64; 256],
@@ -88,14 +88,14 @@ pub extern "C" fn legend_lent_paint_i16(
     nodata: i16,
     out: &mut [u32],
 ) -> LegendAnswer
-    ensures { λ r. ⌜ PlainOutcome (painterLent head banded (now (cmap .entry)) (now (keys .entry)) (now (colors .entry)) (now (lookup .entry)) «nodata_given» (nodataI16 (nodataIfI16 «nodata_given» nodata))) (map ofI16 (now (src .entry))) (now (out .entry)) r (now (out .exit)) ⌝ }
+    ensures { λ r. ⌜ PlainOutcome (painterOfView view banded (now (cmap .entry)) (now (keys .entry)) (now (colors .entry)) (now (lookup .entry)) «nodata_given» (nodataI16 (nodataIfI16 «nodata_given» nodata))) (map ofI16 (now (src .entry))) (now (out .entry)) r (now (out .exit)) ⌝ }
 {
-    let first = refusals::use_refusal(head.settings, head.kind, nodata_given);
+    let first = refusals::use_refusal(view.settings, view.kind, nodata_given);
     if let Answer::Refused(_) = first {
         return answer::to_c(first);
     }
     answer::to_c(legend_scalar::apply_to_data_scalar_i16(
-        head::head_given(head, banded),
+        view::view_from_c(view, banded),
         cmap,
         keys,
         colors,

@@ -4,10 +4,10 @@ use c_answers::colors::LegendColor;
 use c_answers::uses;
 use c_answers::uses::LegendColorList;
 use c_answers::uses::LegendValueRange;
-use c_records::head;
-use c_records::head::LegendHead;
 use c_records::record;
 use c_records::record::LegendRecord;
+use c_records::view;
+use c_records::view::LegendView;
 use c_types::refusals;
 use c_types::samples;
 ghost use mathlib.Core.Path.{_≡_};
@@ -17,17 +17,17 @@ ghost use Rattle.legend_range.specs.ValueRanges.{totalValueRange};
 ghost use Rattle.legend_pixel.specs.Values.{colorForValue};
 ghost use Rattle.legend_apply.specs.ColorLists.{colorList};
 ghost use Rattle.c_types.specs.Refusals.{legendRefusal, useRefusal};
-ghost use Rattle.legend_view.specs.Lent.{lentLegend};
-ghost use Rattle.c_records.specs.Heads.{headGiven};
-ghost use Rattle.c_records.specs.Records.{legendOf};
+ghost use Rattle.legend_view.specs.Borrowed.{borrowedLegend};
+ghost use Rattle.c_records.specs.Views.{viewFromC};
+ghost use Rattle.c_records.specs.Records.{legendFromC};
 ghost use Rattle.c_types.specs.Samples.{nodataIf, nodataIfU8, nodataIfI16};
 ghost use Rattle.c_answers.specs.Uses.{pixelToC, rangeToC, listToC};
 
 // ---- the colour of a sample, by a legend whose arrays are lent
 
 #[no_mangle]
-pub extern "C" fn legend_lent_color_for_f32(
-    head: LegendHead,
+pub extern "C" fn legend_view_color_for_f32(
+    view: LegendView,
     banded: Banded,
     cmap: &[u32; 256],
     keys: &[i64; 256],
@@ -37,10 +37,10 @@ pub extern "C" fn legend_lent_color_for_f32(
     nodata_given: u32,
     nodata: f32,
 ) -> LegendColor
-    ensures { λ r. ⌜ r ≡ pixelToC (useRefusal (head .settings) (head .kind) «nodata_given») (colorForValue (lentLegend (headGiven head banded) (now (cmap .entry)) (now (keys .entry)) (now (colors .entry)) (now (lookup .entry))) (nodataIf «nodata_given» nodata) value) ⌝ }
+    ensures { λ r. ⌜ r ≡ pixelToC (useRefusal (view .settings) (view .kind) «nodata_given») (colorForValue (borrowedLegend (viewFromC view banded) (now (cmap .entry)) (now (keys .entry)) (now (colors .entry)) (now (lookup .entry))) (nodataIf «nodata_given» nodata) value) ⌝ }
 {
     let pixel = legend_pixel::color_for_value(
-        head::head_given(head, banded),
+        view::view_from_c(view, banded),
         cmap,
         keys,
         colors,
@@ -49,14 +49,14 @@ pub extern "C" fn legend_lent_color_for_f32(
         samples::nodata_if(nodata_given, nodata),
     );
     uses::pixel_to_c(
-        refusals::use_refusal(head.settings, head.kind, nodata_given),
+        refusals::use_refusal(view.settings, view.kind, nodata_given),
         pixel,
     )
 }
 
 #[no_mangle]
-pub extern "C" fn legend_lent_color_for_u8(
-    head: LegendHead,
+pub extern "C" fn legend_view_color_for_u8(
+    view: LegendView,
     banded: Banded,
     cmap: &[u32; 256],
     keys: &[i64; 256],
@@ -66,10 +66,10 @@ pub extern "C" fn legend_lent_color_for_u8(
     nodata_given: u32,
     nodata: u8,
 ) -> LegendColor
-    ensures { λ r. ⌜ r ≡ pixelToC (useRefusal (head .settings) (head .kind) «nodata_given») (colorForValue (lentLegend (headGiven head banded) (now (cmap .entry)) (now (keys .entry)) (now (colors .entry)) (now (lookup .entry))) (nodataU8 (nodataIfU8 «nodata_given» nodata)) (ofU8 value)) ⌝ }
+    ensures { λ r. ⌜ r ≡ pixelToC (useRefusal (view .settings) (view .kind) «nodata_given») (colorForValue (borrowedLegend (viewFromC view banded) (now (cmap .entry)) (now (keys .entry)) (now (colors .entry)) (now (lookup .entry))) (nodataU8 (nodataIfU8 «nodata_given» nodata)) (ofU8 value)) ⌝ }
 {
     let pixel = legend_pixel::color_for_value_u8(
-        head::head_given(head, banded),
+        view::view_from_c(view, banded),
         cmap,
         keys,
         colors,
@@ -78,14 +78,14 @@ pub extern "C" fn legend_lent_color_for_u8(
         samples::nodata_if_u8(nodata_given, nodata),
     );
     uses::pixel_to_c(
-        refusals::use_refusal(head.settings, head.kind, nodata_given),
+        refusals::use_refusal(view.settings, view.kind, nodata_given),
         pixel,
     )
 }
 
 #[no_mangle]
-pub extern "C" fn legend_lent_color_for_i16(
-    head: LegendHead,
+pub extern "C" fn legend_view_color_for_i16(
+    view: LegendView,
     banded: Banded,
     cmap: &[u32; 256],
     keys: &[i64; 256],
@@ -95,10 +95,10 @@ pub extern "C" fn legend_lent_color_for_i16(
     nodata_given: u32,
     nodata: i16,
 ) -> LegendColor
-    ensures { λ r. ⌜ r ≡ pixelToC (useRefusal (head .settings) (head .kind) «nodata_given») (colorForValue (lentLegend (headGiven head banded) (now (cmap .entry)) (now (keys .entry)) (now (colors .entry)) (now (lookup .entry))) (nodataI16 (nodataIfI16 «nodata_given» nodata)) (ofI16 value)) ⌝ }
+    ensures { λ r. ⌜ r ≡ pixelToC (useRefusal (view .settings) (view .kind) «nodata_given») (colorForValue (borrowedLegend (viewFromC view banded) (now (cmap .entry)) (now (keys .entry)) (now (colors .entry)) (now (lookup .entry))) (nodataI16 (nodataIfI16 «nodata_given» nodata)) (ofI16 value)) ⌝ }
 {
     let pixel = legend_pixel::color_for_value_i16(
-        head::head_given(head, banded),
+        view::view_from_c(view, banded),
         cmap,
         keys,
         colors,
@@ -107,7 +107,7 @@ pub extern "C" fn legend_lent_color_for_i16(
         samples::nodata_if_i16(nodata_given, nodata),
     );
     uses::pixel_to_c(
-        refusals::use_refusal(head.settings, head.kind, nodata_given),
+        refusals::use_refusal(view.settings, view.kind, nodata_given),
         pixel,
     )
 }
@@ -116,9 +116,9 @@ pub extern "C" fn legend_lent_color_for_i16(
 
 #[no_mangle]
 pub extern "C" fn legend_record_total_value_range(legend: LegendRecord) -> LegendValueRange
-    ensures { λ r. ⌜ r ≡ rangeToC (legendRefusal (legend .settings) (legend .kind)) (totalValueRange (legendOf legend)) ⌝ }
+    ensures { λ r. ⌜ r ≡ rangeToC (legendRefusal (legend .settings) (legend .kind)) (totalValueRange (legendFromC legend)) ⌝ }
 {
-    let range = legend_range::total_value_range(record::legend_of(legend));
+    let range = legend_range::total_value_range(record::legend_from_c(legend));
     uses::range_to_c(
         refusals::legend_refusal(legend.settings, legend.kind),
         range,
@@ -127,8 +127,8 @@ pub extern "C" fn legend_record_total_value_range(legend: LegendRecord) -> Legen
 
 #[no_mangle]
 pub extern "C" fn legend_record_color_list(legend: LegendRecord) -> LegendColorList
-    ensures { λ r. ⌜ r ≡ listToC (legendRefusal (legend .settings) (legend .kind)) (colorList (legendOf legend)) ⌝ }
+    ensures { λ r. ⌜ r ≡ listToC (legendRefusal (legend .settings) (legend .kind)) (colorList (legendFromC legend)) ⌝ }
 {
-    let list = legend_apply::color_list(record::legend_of(legend));
+    let list = legend_apply::color_list(record::legend_from_c(legend));
     uses::list_to_c(refusals::legend_refusal(legend.settings, legend.kind), list)
 }

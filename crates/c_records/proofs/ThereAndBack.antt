@@ -10,8 +10,8 @@ use Rattle.legend.specs.declared.LegendKind.{LegendKind}
 use Rattle.legend.specs.declared.LegendKind.the-variants.{Linear, Banded, CategoricNumeric}
 use Rattle.legend.specs.declared.Legend.{Legend}
 use Rattle.refusal.specs.declared.Answer.the-variants.{Done}
-use Rattle.c_types.specs.Settings.{colorIf, flagOf, givenFlag, settingsOf, flatSettings}
-use Rattle.c_records.specs.Records.{kindOf, kindNumber, legendOf, flat}
+use Rattle.c_types.specs.Settings.{colorIf, flagOf, givenFlag, settingsFromC, settingsToC}
+use Rattle.c_records.specs.Records.{kindFromC, kindToC, legendFromC, recordToC}
 use Rattle.c_types.specs.Refusals.{settingsRefusal, legendRefusal}
 
 color-back : (o : OptionalColor) → colorIf (givenFlag o) (orElse o 0) ≡ o
@@ -22,17 +22,17 @@ flag-back : (b : Bool) → eqb (flagOf b) 1 ≡ b
 flag-back true = refl
 flag-back false = refl
 
-kind-back : (k : LegendKind) → kindOf (kindNumber k) ≡ k
+kind-back : (k : LegendKind) → kindFromC (kindToC k) ≡ k
 kind-back Linear = refl
 kind-back Banded = refl
 kind-back CategoricNumeric = refl
 
-pub settings-back : (c : MappingConfig) → settingsOf (flatSettings c) ≡ c
-unfolding settingsOf flatSettings
+pub settings-back : (c : MappingConfig) → settingsFromC (settingsToC c) ≡ c
+unfolding settingsFromC settingsToC
 settings-back c = λ j. record { «nodata_color» = c .«nodata_color»; «out_of_range_low_color» = color-back (c .«out_of_range_low_color») j; «out_of_range_high_color» = color-back (c .«out_of_range_high_color») j; «zero_is_nodata» = flag-back (c .«zero_is_nodata») j }
 
-pub legend-back : (l : Legend) → legendOf (flat l) ≡ l
-unfolding legendOf flat
+pub legend-back : (l : Legend) → legendFromC (recordToC l) ≡ l
+unfolding legendFromC recordToC
 legend-back l = λ j. record { kind = kind-back (l .kind) j; linear = l .linear; banded = l .banded; categoric = l .categoric; «mapping_config» = settings-back (l .«mapping_config») j }
 
 color-flag : (o : OptionalColor) → ltb (givenFlag o) 2 ≡ true
@@ -43,11 +43,11 @@ bool-flag : (b : Bool) → ltb (flagOf b) 2 ≡ true
 bool-flag true = refl
 bool-flag false = refl
 
-kind-known : (k : LegendKind) → ltb 2 (kindNumber k) ≡ false
+kind-known : (k : LegendKind) → ltb 2 (kindToC k) ≡ false
 kind-known Linear = refl
 kind-known Banded = refl
 kind-known CategoricNumeric = refl
 
-pub flat-used : (l : Legend) → legendRefusal (flat l .settings) (flat l .kind) ≡ Done
-unfolding legendRefusal settingsRefusal flat flatSettings
+pub flat-used : (l : Legend) → legendRefusal (recordToC l .settings) (recordToC l .kind) ≡ Done
+unfolding legendRefusal settingsRefusal recordToC settingsToC
 flat-used l = let c = l .«mapping_config» in simp (color-flag (c .«out_of_range_low_color»), color-flag (c .«out_of_range_high_color»), bool-flag (c .«zero_is_nodata»), kind-known (l .kind))

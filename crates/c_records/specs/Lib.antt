@@ -1,2 +1,2 @@
-pub mod Heads
+pub mod Views
 pub mod Records

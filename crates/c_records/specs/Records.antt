@@ -11,24 +11,24 @@ use Rattle.legend_builders.specs.declared.MadeLegend.{MadeLegend}
 use Rattle.legend.specs.Record.{emptyLegend}
 use Rattle.c_records.specs.declared.record.LegendRecord.{LegendRecord}
 use Rattle.c_records.specs.declared.record.LegendMade.{LegendMade}
-use Rattle.c_types.specs.Answers.{answerOf}
-use Rattle.c_types.specs.Settings.{settingsOf, flatSettings}
+use Rattle.c_types.specs.Answers.{answerToC}
+use Rattle.c_types.specs.Settings.{settingsFromC, settingsToC}
 
 -- 0 linear, 1 banded, 2 categoric; the numbers from 3 on are refused before
-abbrev pub kindOf : ℕ → LegendKind
-kindOf n = cond (eqb n 0) Linear (cond (eqb n 1) Banded CategoricNumeric)
+abbrev pub kindFromC : ℕ → LegendKind
+kindFromC n = cond (eqb n 0) Linear (cond (eqb n 1) Banded CategoricNumeric)
 
-unfoldable pub legendOf : LegendRecord → Legend
-legendOf r = record { kind = kindOf (r .kind); linear = r .linear; banded = r .banded; categoric = r .categoric; «mapping_config» = settingsOf (r .settings) }
+unfoldable pub legendFromC : LegendRecord → Legend
+legendFromC r = record { kind = kindFromC (r .kind); linear = r .linear; banded = r .banded; categoric = r .categoric; «mapping_config» = settingsFromC (r .settings) }
 
-abbrev pub kindNumber : LegendKind → ℕ
-kindNumber Linear = 0
-kindNumber Banded = 1
-kindNumber CategoricNumeric = 2
+abbrev pub kindToC : LegendKind → ℕ
+kindToC Linear = 0
+kindToC Banded = 1
+kindToC CategoricNumeric = 2
 
-unfoldable pub flat : Legend → LegendRecord
-flat l = record { kind = kindNumber (l .kind); settings = flatSettings (l .«mapping_config»); linear = l .linear; banded = l .banded; categoric = l .categoric }
+unfoldable pub recordToC : Legend → LegendRecord
+recordToC l = record { kind = kindToC (l .kind); settings = settingsToC (l .«mapping_config»); linear = l .linear; banded = l .banded; categoric = l .categoric }
 
 -- what a builder made; what the call's own arguments are refused by comes first, with the empty legend
 unfoldable pub madeToC : (first : Answer) → MadeLegend → LegendMade
-madeToC first made = record { answer = answerOf (firstOf first (made .answer)); legend = flat (ifDone first (made .legend) emptyLegend) }
+madeToC first made = record { answer = answerToC (firstOf first (made .answer)); legend = recordToC (ifDone first (made .legend) emptyLegend) }

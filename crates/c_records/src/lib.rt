@@ -1,3 +1,3 @@
 // A legend as C holds it, and as C lends it (include/legend.h).
-pub mod head;
 pub mod record;
+pub mod view;

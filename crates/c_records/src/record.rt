@@ -11,7 +11,7 @@ use legend_builders::MadeLegend;
 use linear::Linear;
 use refusal::Answer;
 ghost use mathlib.Core.Path.{_≡_};
-ghost use Rattle.c_records.specs.Records.{kindOf, kindNumber, legendOf, flat, madeToC};
+ghost use Rattle.c_records.specs.Records.{kindFromC, kindToC, legendFromC, recordToC, madeToC};
 
 // The kind is 0 for linear, 1 for banded, 2 for categoric; of the three records that of the kind alone counts.
 #[repr(C)]
@@ -31,8 +31,8 @@ pub struct LegendMade {
 }
 
 // A kind that is none of the three has been refused before.
-pub fn kind_of(kind: u32) -> LegendKind
-    ensures { λ r. ⌜ r ≡ kindOf kind ⌝ }
+pub fn kind_from_c(kind: u32) -> LegendKind
+    ensures { λ r. ⌜ r ≡ kindFromC kind ⌝ }
 {
     if kind == 0 {
         return LegendKind::Linear;
@@ -43,24 +43,24 @@ pub fn kind_of(kind: u32) -> LegendKind
     LegendKind::CategoricNumeric
 }
 
-pub fn legend_of(stored: LegendRecord) -> Legend
-    ensures { λ r. ⌜ r ≡ legendOf stored ⌝ }
+pub fn legend_from_c(stored: LegendRecord) -> Legend
+    ensures { λ r. ⌜ r ≡ legendFromC stored ⌝ }
 {
     let linear = stored.linear;
     let banded = stored.banded;
     let categoric = stored.categoric;
     let given = stored.settings;
     Legend {
-        kind: kind_of(stored.kind),
+        kind: kind_from_c(stored.kind),
         linear,
         banded,
         categoric,
-        mapping_config: settings::settings_of(given),
+        mapping_config: settings::settings_from_c(given),
     }
 }
 
-fn kind_number(kind: LegendKind) -> u32
-    ensures { λ r. ⌜ r ≡ kindNumber kind ⌝ }
+fn kind_to_c(kind: LegendKind) -> u32
+    ensures { λ r. ⌜ r ≡ kindToC kind ⌝ }
 {
     match kind {
         LegendKind::Linear => 0,
@@ -69,8 +69,8 @@ fn kind_number(kind: LegendKind) -> u32
     }
 }
 
-fn flat(made: Legend) -> LegendRecord
-    ensures { λ r. ⌜ r ≡ flat made ⌝ }
+fn record_to_c(made: Legend) -> LegendRecord
+    ensures { λ r. ⌜ r ≡ recordToC made ⌝ }
 {
     let kind = made.kind;
     let linear = made.linear;
@@ -78,8 +78,8 @@ fn flat(made: Legend) -> LegendRecord
     let categoric = made.categoric;
     let config = made.mapping_config;
     LegendRecord {
-        kind: kind_number(kind),
-        settings: settings::flat_settings(config),
+        kind: kind_to_c(kind),
+        settings: settings::settings_to_c(config),
         linear,
         banded,
         categoric,
@@ -95,11 +95,11 @@ pub fn made_to_c(first: Answer, made: MadeLegend) -> LegendMade
     match first {
         Answer::Refused(_) => LegendMade {
             answer: answer::to_c(first),
-            legend: flat(Legend::empty()),
+            legend: record_to_c(Legend::empty()),
         },
         Answer::Done => LegendMade {
             answer: answer::to_c(given),
-            legend: flat(legend),
+            legend: record_to_c(legend),
         },
     }
 }

@@ -1,2 +1,2 @@
 -- The laws that other crates cite.
-pub mod Known
+pub mod Naming

@@ -10,5 +10,5 @@ abbrev pub withIndex : ℕ → Index → LegendAnswer
 withIndex n (At i) = record { number = n; indexed = 1; index = i }
 withIndex n Absent = record { number = n; indexed = 0; index = 0 }
 
-abbrev pub answerOf : Answer → LegendAnswer
-answerOf a = withIndex (answerNumber a) (answerIndex a)
+abbrev pub answerToC : Answer → LegendAnswer
+answerToC a = withIndex (answerNumber a) (answerIndex a)

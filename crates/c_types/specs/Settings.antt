@@ -11,8 +11,8 @@ use Rattle.c_types.specs.declared.settings.LegendSettings.{LegendSetting
 abbrev pub colorIf : (given color : ℕ) → OptionalColor
 colorIf given color = cond (eqb given 1) (Given color) Absent
 
-unfoldable pub settingsOf : LegendSettings → MappingConfig
-settingsOf s = record { «nodata_color» = s .«nodata_color»; «out_of_range_low_color» = colorIf (s .«has_low») (s .«low_color»); «out_of_range_high_color» = colorIf (s .«has_high») (s .«high_color»); «zero_is_nodata» = eqb (s .«zero_is_nodata») 1 }
+unfoldable pub settingsFromC : LegendSettings → MappingConfig
+settingsFromC s = record { «nodata_color» = s .«nodata_color»; «out_of_range_low_color» = colorIf (s .«has_low») (s .«low_color»); «out_of_range_high_color» = colorIf (s .«has_high») (s .«high_color»); «zero_is_nodata» = eqb (s .«zero_is_nodata») 1 }
 
 abbrev pub flagOf : Bool → ℕ
 flagOf b = cond b 1 0
@@ -22,5 +22,5 @@ givenFlag (Given color) = 1
 givenFlag Absent = 0
 
 -- the colour 0 where none is given
-unfoldable pub flatSettings : MappingConfig → LegendSettings
-flatSettings c = record { «nodata_color» = c .«nodata_color»; «low_color» = orElse (c .«out_of_range_low_color») 0; «high_color» = orElse (c .«out_of_range_high_color») 0; «has_low» = givenFlag (c .«out_of_range_low_color»); «has_high» = givenFlag (c .«out_of_range_high_color»); «zero_is_nodata» = flagOf (c .«zero_is_nodata») }
+unfoldable pub settingsToC : MappingConfig → LegendSettings
+settingsToC c = record { «nodata_color» = c .«nodata_color»; «low_color» = orElse (c .«out_of_range_low_color») 0; «high_color» = orElse (c .«out_of_range_high_color») 0; «has_low» = givenFlag (c .«out_of_range_low_color»); «has_high» = givenFlag (c .«out_of_range_high_color»); «zero_is_nodata» = flagOf (c .«zero_is_nodata») }

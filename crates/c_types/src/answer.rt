@@ -2,7 +2,7 @@
 use refusal::Answer;
 use refusal::Index;
 ghost use mathlib.Core.Path.{_≡_};
-ghost use Rattle.c_types.specs.Answers.{answerOf, withIndex};
+ghost use Rattle.c_types.specs.Answers.{answerToC, withIndex};
 
 // A refusal's number, 0 where nothing is refused, and its index: `indexed` is 1 where the table of refusals names one.
 #[repr(C)]
@@ -14,7 +14,7 @@ pub struct LegendAnswer {
 
 // An answer as C reads it: an enum does not pass to C.
 pub fn to_c(a: Answer) -> LegendAnswer
-    ensures { λ r. ⌜ r ≡ answerOf a ⌝ }
+    ensures { λ r. ⌜ r ≡ answerToC a ⌝ }
 {
     let number = a.number();
     with_index(number, a.index())

@@ -2,7 +2,7 @@
 use colormapper::MappingConfig;
 use colormapper::OptionalColor;
 ghost use mathlib.Core.Path.{_≡_};
-ghost use Rattle.c_types.specs.Settings.{colorIf, flagOf, givenFlag, settingsOf, flatSettings};
+ghost use Rattle.c_types.specs.Settings.{colorIf, flagOf, givenFlag, settingsFromC, settingsToC};
 
 // The last three are flags, 0 or 1. The low colour counts where `has_low` is 1, the high colour where `has_high` is.
 #[repr(C)]
@@ -15,8 +15,8 @@ pub struct LegendSettings {
     pub zero_is_nodata: u32,
 }
 
-pub fn settings_of(settings: LegendSettings) -> MappingConfig
-    ensures { λ r. ⌜ r ≡ settingsOf settings ⌝ }
+pub fn settings_from_c(settings: LegendSettings) -> MappingConfig
+    ensures { λ r. ⌜ r ≡ settingsFromC settings ⌝ }
 {
     MappingConfig {
         nodata_color: settings.nodata_color,
@@ -36,8 +36,8 @@ fn color_if(given: u32, color: u32) -> OptionalColor
 }
 
 // The other way: the colour 0 where none is given.
-pub fn flat_settings(config: MappingConfig) -> LegendSettings
-    ensures { λ r. ⌜ r ≡ flatSettings config ⌝ }
+pub fn settings_to_c(config: MappingConfig) -> LegendSettings
+    ensures { λ r. ⌜ r ≡ settingsToC config ⌝ }
 {
     let low = config.out_of_range_low_color;
     let high = config.out_of_range_high_color;

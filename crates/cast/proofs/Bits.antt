@@ -18,8 +18,8 @@ use lib.Ieee.{Float, nan, inf, binary32, odd, ofFields, ofBits, toBits, fits}
 use lib.Ieee.Bits.{cond-no, ofBits-toBits, toBits-lt}
 use lib.Ieee.Exact.{HasValue, odd-sign}
 use Rattle.cast.specs.declared.Truncated.the-variants.{Whole, Outside}
-use Rattle.cast.specs.Truncated.{signed, cut, truncated}
-use Rattle.cast.specs.Pattern.{field, wholePart}
+use Rattle.cast.specs.Truncated.{signed, truncatedFraction, truncated}
+use Rattle.cast.specs.forms.Pattern.{field, wholePart}
 use Rattle.cast.proofs.Value.{at-value, nothing, inside, outside}
 
 -- ---- what the code reads
@@ -147,7 +147,7 @@ module _ (x : Float) (f : T (fits binary32 x)) where
   is : x ≡ ofFields binary32 s (field b) (b % 2 ^ 23)
   is = sym (ofBits-toBits binary32 x f) ∙ fields-of b
 
-  at-bits : field b < 255 → truncated x ≡ cut s (mant (field b) (b % 2 ^ 23) * 2 ^ (field b - 1)) (2 ^ 149)
+  at-bits : field b < 255 → truncated x ≡ truncatedFraction s (mant (field b) (b % 2 ^ 23) * 2 ^ (field b - 1)) (2 ^ 149)
   at-bits h = ap truncated is ∙ at-value (ofFields binary32 s (field b) (b % 2 ^ 23)) s (mant (field b) (b % 2 ^ 23) * 2 ^ (field b - 1)) (2 ^ 149) (pow-pos 149) (read s (field b) (b % 2 ^ 23) h)
 
   pub small : field b < 127 → truncated x ≡ Whole (pos 0)
@@ -162,8 +162,8 @@ module _ (x : Float) (f : T (fits binary32 x)) where
       more : (F : ℕ) → F < 127 → F < 255
       more F h = omega arith
 
-  at-digits : 127 ≤ field b → field b < 255 → truncated x ≡ cut s (digits b * 2 ^ (field b - 1)) (2 ^ 149)
-  at-digits h k = at-bits k ∙ ap (λ (m : ℕ). cut s (m * 2 ^ (field b - 1)) (2 ^ 149)) (mant-is (field b) (b % 2 ^ 23) h)
+  at-digits : 127 ≤ field b → field b < 255 → truncated x ≡ truncatedFraction s (digits b * 2 ^ (field b - 1)) (2 ^ 149)
+  at-digits h k = at-bits k ∙ ap (λ (m : ℕ). truncatedFraction s (m * 2 ^ (field b - 1)) (2 ^ 149)) (mant-is (field b) (b % 2 ^ 23) h)
 
   pub middle : 127 ≤ field b → field b < 190 → truncated x ≡ Whole (signed s (wholePart b))
   middle h k = at-digits h (more (field b) k) ∙ inside s (digits b * 2 ^ (field b - 1)) (2 ^ 149) (size-lt b k)

@@ -11,7 +11,7 @@ use lib.Ieee.{Float, nan, inf, fin, binary32, up, down, ofBits, lt, toUnsigned}
 use lib.Ieee.Fits.{down-pos}
 use Rattle.cast.specs.declared.Truncated.{Truncated}
 use Rattle.cast.specs.declared.Truncated.the-variants.{Whole, Outside}
-use Rattle.cast.specs.Truncated.{signed, inI64, cut, truncated}
+use Rattle.cast.specs.Truncated.{signed, fractionInI64, truncatedFraction, truncated}
 use Rattle.cast.proofs.Value.{nothing, inside}
 
 -- -1 and 513
@@ -83,8 +83,8 @@ Missed Outside = Unit
 Missed (Whole (pos n)) = 512 < n
 Missed (Whole (negsuc n)) = Unit
 
-missed-cut : (s : Bool) (a c : ℕ) → Missed (Whole (signed s (a / c))) → Missed (cut s a c)
-missed-cut s a c h = go (inI64 s a c)
+missed-cut : (s : Bool) (a c : ℕ) → Missed (Whole (signed s (a / c))) → Missed (truncatedFraction s a c)
+missed-cut s a c h = go (fractionInI64 s a c)
   where
     go : (b : Bool) → Missed (cond b (Whole (signed s (a / c))) Outside)
     go true = h

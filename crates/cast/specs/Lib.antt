@@ -2,4 +2,4 @@
 pub mod Samples
 pub mod Nodata
 pub mod Truncated
-pub mod Pattern
+pub mod forms

@@ -14,16 +14,16 @@ signed true n = negℤ (pos n)
 signed false n = pos n
 
 -- the fraction a / c with this sign is not below -2^63, and is below 2^63
-abbrev pub inI64 : Bool → ℕ → ℕ → Bool
-inI64 true a c = leb a (2 ^ 63 * c)
-inI64 false a c = ltb a (2 ^ 63 * c)
+abbrev pub fractionInI64 : Bool → ℕ → ℕ → Bool
+fractionInI64 true a c = leb a (2 ^ 63 * c)
+fractionInI64 false a c = ltb a (2 ^ 63 * c)
 
 -- that fraction, truncated toward zero
-abbrev pub cut : Bool → ℕ → ℕ → Truncated
-cut s a c = cond (inI64 s a c) (Whole (signed s (a / c))) Outside
+abbrev pub truncatedFraction : Bool → ℕ → ℕ → Truncated
+truncatedFraction s a c = cond (fractionInI64 s a c) (Whole (signed s (a / c))) Outside
 
 -- `fin s m e` is m * 2 ^ e in size, which is the fraction m * up e / down e
 unfoldable pub truncated : Float → Truncated
 truncated nan = Outside
 truncated (inf s) = Outside
-truncated (fin s m e) = cut s (m * up e) (down e)
+truncated (fin s m e) = truncatedFraction s (m * up e) (down e)

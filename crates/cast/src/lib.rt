@@ -4,7 +4,7 @@ ghost use Prim.Native.Nat.{_≤_, _<_, _^_};
 ghost use Rattle.cast.specs.Samples.{ofU8, ofI16};
 ghost use Rattle.cast.specs.Nodata.{nodataU8, nodataI16};
 ghost use Rattle.cast.specs.Truncated.{truncated};
-ghost use Rattle.cast.specs.Pattern.{field, wholePart};
+ghost use Rattle.cast.specs.forms.Pattern.{field, wholePart};
 
 // A sample of either type becomes an f32 without loss (proofs/Lossless.antt).
 pub fn u8_to_f32(byte: u8) -> f32

@@ -7,7 +7,7 @@ use native.Mathlib.Omega.{arith}
 use lib.IntN.{ℤ, pos}
 use lib.ListN.{length, getD}
 use lib.Signed.{ltZ}
-use Rattle.categoric_build.specs.Categories.{Category, category, inserted, firstOf, categories, keysOf, underNext, ascending}
+use Rattle.categoric_build.specs.Categories.{Category, category, inserted, insertedUpTo, categories, keysOf, underNext, ascending}
 use Rattle.categoric_lists.proofs.Numbers.{lt-no, equal, both}
 
 module _ (key : ℤ) (color : ℕ) where
@@ -34,10 +34,10 @@ module _ (key : ℤ) (color : ℕ) where
       go rest false false f g =
           subst (λ (k : ℤ). (underNext k (keysOf cs) && ascending (keysOf cs)) ≡ true) (equal (c .key) key (omega (arith, lt-no (c .key) key f, lt-no key (c .key) g))) e
 
-first-ascend : (n : ℕ) (keys : List ℤ) (colors : List ℕ) → ascending (keysOf (firstOf n keys colors)) ≡ true
-unfolding firstOf ascending
+first-ascend : (n : ℕ) (keys : List ℤ) (colors : List ℕ) → ascending (keysOf (insertedUpTo n keys colors)) ≡ true
+unfolding insertedUpTo ascending
 first-ascend zero keys colors = refl
-first-ascend (suc n) keys colors = put-in (getD keys n (pos 0)) (getD colors n 0) (firstOf n keys colors) (first-ascend n keys colors)
+first-ascend (suc n) keys colors = put-in (getD keys n (pos 0)) (getD colors n 0) (insertedUpTo n keys colors) (first-ascend n keys colors)
 
 pub categories-ascend : (keys : List ℤ) (colors : List ℕ) → ascending (keysOf (categories keys colors)) ≡ true
 categories-ascend keys colors = first-ascend (length keys) keys colors

@@ -8,12 +8,12 @@ use lib.ListN.{length, getD, take, drop, set, replicate, length-append, length-d
 use lib.Seq.{length-take-le, take-suc, drop-cons, drop-length, take-append-le, drop-append-add, getD-take, set-at, set-append-left, set-split}
 use Rattle.lists.specs.Padded.{padded}
 use Rattle.lists.proofs.Padding.{take-padded, length-padded}
-use Rattle.categoric_build.specs.Steps.{movedUp}
+use Rattle.categoric_build.specs.forms.Insertion.{shiftedUp}
 
 module _ {A : Type 0} (z : A) where
   -- before the first move
-  pub moved-start : (count : ℕ) (a : List A) → count ≤ length a → movedUp count count a ≡ a
-  unfolding movedUp
+  pub moved-start : (count : ℕ) (a : List A) → count ≤ length a → shiftedUp count count a ≡ a
+  unfolding shiftedUp
   moved-start count a h =
       ap (λ (l : List A). take (count + 1) a ++ (l ++ drop (count + 1) a)) (none (take count a) (length-take-le count a h))
       ∙ take-append-drop (count + 1) a
@@ -22,15 +22,15 @@ module _ {A : Type 0} (z : A) where
       none l e = ap (λ (n : ℕ). drop n l) (sym e) ∙ drop-length l
 
   -- the array in front of and behind the place, which still holds what it held
-  moved-is : (at count : ℕ) (a : List A) → at < length a → movedUp at count a ≡ take at a ++ getD a at z ∷ (drop at (take count a) ++ drop (count + 1) a)
-  unfolding movedUp
+  moved-is : (at count : ℕ) (a : List A) → at < length a → shiftedUp at count a ≡ take at a ++ getD a at z ∷ (drop at (take count a) ++ drop (count + 1) a)
+  unfolding shiftedUp
   moved-is at count a h =
       ap (λ (n : ℕ). take n a ++ (drop at (take count a) ++ drop (count + 1) a)) (add-one at)
       ∙ ap (λ (l : List A). l ++ (drop at (take count a) ++ drop (count + 1) a)) (take-suc a at z h)
       ∙ append-assoc (take at a) (getD a at z ∷ []) (drop at (take count a) ++ drop (count + 1) a)
 
   -- one move
-  pub moved-turn : (i m count : ℕ) (a : List A) → i ≡ suc m → i ≤ count → count < length a → set (movedUp i count a) i (getD (movedUp i count a) m z) ≡ movedUp m count a
+  pub moved-turn : (i m count : ℕ) (a : List A) → i ≡ suc m → i ≤ count → count < length a → set (shiftedUp i count a) i (getD (shiftedUp i count a) m z) ≡ shiftedUp m count a
   moved-turn i m count a e h g =
       let l : length (take i a) ≡ i = length-take-le i a (omega arith) in
       ap (λ (r : List A). set r i (getD r m z)) (moved-is i count a (omega arith))
@@ -47,7 +47,7 @@ module _ {A : Type 0} (z : A) where
       rest n = drop n (take count a) ++ drop (count + 1) a
 
   -- a list in n places, with an entry stored in the room made
-  pub roomed : (n at count : ℕ) (xs : List A) (x : A) → count ≡ length xs → at ≤ count → count < n → set (movedUp at count (padded z n xs)) at x ≡ padded z n (take at xs ++ x ∷ drop at xs)
+  pub roomed : (n at count : ℕ) (xs : List A) (x : A) → count ≡ length xs → at ≤ count → count < n → set (shiftedUp at count (padded z n xs)) at x ≡ padded z n (take at xs ++ x ∷ drop at xs)
   unfolding padded
   roomed n at count xs x e h g =
       let a : List A = xs ++ replicate (n - length xs) z in

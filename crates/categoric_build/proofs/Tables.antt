@@ -17,7 +17,7 @@ use lib.Signed.{ltZ, leZ}
 use Rattle.lists.specs.Padded.{padded}
 use Rattle.lists.proofs.Padding.{padded-none}
 use Rattle.categoric_lists.specs.Whole.{whole}
-use Rattle.categoric_build.specs.Table.{foremost, smallest, largest, tabled, tableSize, written, table}
+use Rattle.categoric_build.specs.Table.{foremost, smallest, largest, hasTable, tableSize, written, table}
 use Rattle.categoric_lists.proofs.Numbers.{below, lt-yes, lt-no, le-is, not-negative, up-to, both}
 
 -- ---- the foremost key
@@ -62,50 +62,50 @@ largest-all keys = foremost-all (λ x y. ltZ y x) (λ a b. b ⊑ a) (λ a. omega
 
 -- ---- which keys have a table
 module _ (keys : List ℤ) where
-  pub not-tabled : tabled keys ≡ false → tableSize keys ≡ 0
+  pub not-tabled : hasTable keys ≡ false → tableSize keys ≡ 0
   unfolding tableSize
   not-tabled e = ap (λ (t : Bool). cond t (whole (largest keys) + 1) 0) e
 
-  pub is-tabled : tabled keys ≡ true → tableSize keys ≡ whole (largest keys) + 1
+  pub is-tabled : hasTable keys ≡ true → tableSize keys ≡ whole (largest keys) + 1
   unfolding tableSize
   is-tabled e = ap (λ (t : Bool). cond t (whole (largest keys) + 1) 0) e
 
-  pub sized : (tableSize keys ≡ 0 → ⊥) → tabled keys ≡ true
-  sized n = go (tabled keys) (λ e. n (not-tabled e))
+  pub sized : (tableSize keys ≡ 0 → ⊥) → hasTable keys ≡ true
+  sized n = go (hasTable keys) (λ e. n (not-tabled e))
     where
       go : (t : Bool) → (t ≡ false → ⊥) → t ≡ true
       go true h = refl
       go false h = absurd (h refl)
 
-  pub unsized : tableSize keys ≡ 0 → tabled keys ≡ false
-  unsized e = go (tabled keys) is-tabled
+  pub unsized : tableSize keys ≡ 0 → hasTable keys ≡ false
+  unsized e = go (hasTable keys) is-tabled
     where
       go : (t : Bool) → (t ≡ true → tableSize keys ≡ whole (largest keys) + 1) → t ≡ false
       go true h = absurd (omega (arith, h refl))
       go false h = refl
 
-  pub empty-none : length keys ≡ 0 → tabled keys ≡ false
-  unfolding tabled
+  pub empty-none : length keys ≡ 0 → hasTable keys ≡ false
+  unfolding hasTable
   empty-none e = ap (λ (t : Bool). (t && leZ (pos 0) (smallest keys)) && leZ (largest keys) (pos 512)) (le-ltb 0 (length keys) (omega arith))
 
-  pub negative-none : ltZ (smallest keys) (pos 0) ≡ true → tabled keys ≡ false
-  unfolding tabled
+  pub negative-none : ltZ (smallest keys) (pos 0) ≡ true → hasTable keys ≡ false
+  unfolding hasTable
   negative-none e = go (ltb 0 (length keys)) (leZ (pos 0) (smallest keys)) (leZ (largest keys) (pos 512)) (le-is (pos 0) (smallest keys) ∙ ap not e)
     where
       go : (a b c : Bool) → b ≡ false → ((a && b) && c) ≡ false
       go true b c e = ap (λ (t : Bool). t && c) e
       go false b c e = refl
 
-  pub large-none : ltZ (pos 512) (largest keys) ≡ true → tabled keys ≡ false
-  unfolding tabled
+  pub large-none : ltZ (pos 512) (largest keys) ≡ true → hasTable keys ≡ false
+  unfolding hasTable
   large-none e = go (ltb 0 (length keys) && leZ (pos 0) (smallest keys)) (leZ (largest keys) (pos 512)) (le-is (largest keys) (pos 512) ∙ ap not e)
     where
       go : (a b : Bool) → b ≡ false → (a && b) ≡ false
       go true b e = e
       go false b e = refl
 
-  pub has-table : 0 < length keys → ltZ (smallest keys) (pos 0) ≡ false → ltZ (pos 512) (largest keys) ≡ false → tabled keys ≡ true
-  unfolding tabled
+  pub has-table : 0 < length keys → ltZ (smallest keys) (pos 0) ≡ false → ltZ (pos 512) (largest keys) ≡ false → hasTable keys ≡ true
+  unfolding hasTable
   has-table n l g = simp (lt-ltb 0 (length keys) n, le-is (pos 0) (smallest keys) ∙ ap not l, le-is (largest keys) (pos 512) ∙ ap not g)
 
 -- what that says of the keys
@@ -113,13 +113,13 @@ no-less : (z : ℤ) → below z ≤ whole z → below z ≡ 0
 no-less (pos n) h = refl
 no-less (negsuc n) h = absurd (omega arith)
 
-module _ (keys : List ℤ) (e : tabled keys ≡ true) where
+module _ (keys : List ℤ) (e : hasTable keys ≡ true) where
   smallest-from-0 : below (smallest keys) ≡ 0
-  unfolding tabled
+  unfolding hasTable
   smallest-from-0 = not-negative (smallest keys) (not-true (ltZ (smallest keys) (pos 0)) (sym (le-is (pos 0) (smallest keys)) ∙ both (ltb 0 (length keys)) (leZ (pos 0) (smallest keys)) (both (ltb 0 (length keys) && leZ (pos 0) (smallest keys)) (leZ (largest keys) (pos 512)) e .0) .1))
 
   pub largest-to-512 : whole (largest keys) ≤ 512
-  unfolding tabled
+  unfolding hasTable
   largest-to-512 = up-to (largest keys) 512 (not-true (ltZ (pos 512) (largest keys)) (sym (le-is (largest keys) (pos 512)) ∙ both (ltb 0 (length keys) && leZ (pos 0) (smallest keys)) (leZ (largest keys) (pos 512)) e .1))
 
   pub size-≤ : tableSize keys ≤ 513
@@ -133,7 +133,7 @@ module _ (keys : List ℤ) (e : tabled keys ≡ true) where
   key-in-table k h = omega (arith, is-tabled keys e, largest-all keys k h, key-from-0 k h)
 
   pub largest-from-0 : below (largest keys) ≡ 0
-  unfolding tabled
+  unfolding hasTable
   largest-from-0 =
       let some = ltb-true 0 (length keys) (both (ltb 0 (length keys)) (leZ (pos 0) (smallest keys)) (both (ltb 0 (length keys) && leZ (pos 0) (smallest keys)) (leZ (largest keys) (pos 512)) e .0) .0) in
       no-less (largest keys) (omega (arith, largest-all keys 0 some, key-from-0 0 some))
@@ -153,11 +153,11 @@ module _ (keys : List ℤ) (colors : List ℕ) where
       ap (λ (l : List ℕ). set l (whole (getD keys n (pos 0))) (getD colors n 0)) (written-front n words rest (λ k q. h k (omega arith)))
       ∙ set-append-left (written n keys colors words) rest (whole (getD keys n (pos 0))) (getD colors n 0) (omega (arith, length-written n words, h n (omega arith)))
 
-  pub no-table : tabled keys ≡ false → replicate 513 0 ≡ padded 0 513 (table keys colors)
+  pub no-table : hasTable keys ≡ false → replicate 513 0 ≡ padded 0 513 (table keys colors)
   unfolding table
   no-table e = sym (ap (λ (t : Bool). padded 0 513 (cond t (written (length keys) keys colors (replicate (tableSize keys) 0)) [])) e ∙ padded-none 0 513)
 
-  pub a-table : tabled keys ≡ true → written (length keys) keys colors (replicate 513 0) ≡ padded 0 513 (table keys colors)
+  pub a-table : hasTable keys ≡ true → written (length keys) keys colors (replicate 513 0) ≡ padded 0 513 (table keys colors)
   unfolding table padded
   a-table e =
       let w : List ℕ = written (length keys) keys colors (replicate (tableSize keys) 0) in
@@ -170,7 +170,7 @@ module _ (keys : List ℤ) (colors : List ℕ) where
       ∙ sym (ap (λ (t : Bool). (cond t w []) ++ replicate (513 - length (cond t w [])) 0) e)
 
 -- ---- one of the counted keys
-module _ (keys : List ℤ) (count : ℕ) (long : length keys ≡ 256) (few : count ≤ 256) (t : tabled (take count keys) ≡ true) (i : ℕ) (h : i < count) where
+module _ (keys : List ℤ) (count : ℕ) (long : length keys ≡ 256) (few : count ≤ 256) (t : hasTable (take count keys) ≡ true) (i : ℕ) (h : i < count) where
   is : getD (take count keys) i (pos 0) ≡ getD keys i (pos 0)
   is = getD-take count keys i (pos 0) h
 

@@ -21,12 +21,12 @@ inserted key color (c ∷ cs) =
     (cond (ltZ key (c .key)) (category key color ∷ c ∷ cs) (category key color ∷ cs))
 
 -- the first n keys with their colours, put in one after the other
-unfoldable pub firstOf : (n : ℕ) (keys : List ℤ) (colors : List ℕ) → List Category
-firstOf zero keys colors = []
-firstOf (suc n) keys colors = inserted (getD keys n (pos 0)) (getD colors n 0) (firstOf n keys colors)
+unfoldable pub insertedUpTo : (n : ℕ) (keys : List ℤ) (colors : List ℕ) → List Category
+insertedUpTo zero keys colors = []
+insertedUpTo (suc n) keys colors = inserted (getD keys n (pos 0)) (getD colors n 0) (insertedUpTo n keys colors)
 
 abbrev pub categories : (keys : List ℤ) (colors : List ℕ) → List Category
-categories keys colors = firstOf (length keys) keys colors
+categories keys colors = insertedUpTo (length keys) keys colors
 
 abbrev pub keysOf : List Category → List ℤ
 keysOf cs = map (λ c. c .key) cs

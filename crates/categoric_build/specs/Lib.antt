@@ -1,3 +1,3 @@
 pub mod Categories
-pub mod Steps
 pub mod Table
+pub mod forms

@@ -20,12 +20,12 @@ abbrev pub largest : List ℤ → ℤ
 largest keys = foremost (λ x y. ltZ y x) (length keys) keys
 
 -- at least one key, smallest >= 0 and largest <= 512
-unfoldable pub tabled : List ℤ → Bool
-tabled keys = (ltb 0 (length keys) && leZ (pos 0) (smallest keys)) && leZ (largest keys) (pos 512)
+unfoldable pub hasTable : List ℤ → Bool
+hasTable keys = (ltb 0 (length keys) && leZ (pos 0) (smallest keys)) && leZ (largest keys) (pos 512)
 
 -- largest + 1 words; no table has none
 unfoldable pub tableSize : List ℤ → ℕ
-tableSize keys = cond (tabled keys) (whole (largest keys) + 1) 0
+tableSize keys = cond (hasTable keys) (whole (largest keys) + 1) 0
 
 -- the words of the first n keys, written over others one after the other
 unfoldable pub written : (n : ℕ) (keys : List ℤ) (colors words : List ℕ) → List ℕ
@@ -34,4 +34,4 @@ written (suc n) keys colors words = set (written n keys colors words) (whole (ge
 
 -- TRANSPARENT in every word, then the keys' words over it
 unfoldable pub table : (keys : List ℤ) (colors : List ℕ) → List ℕ
-table keys colors = cond (tabled keys) (written (length keys) keys colors (replicate (tableSize keys) 0)) []
+table keys colors = cond (hasTable keys) (written (length keys) keys colors (replicate (tableSize keys) 0)) []

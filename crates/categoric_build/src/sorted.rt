@@ -2,7 +2,7 @@
 ghost use mathlib.Core.Path.{_≡_};
 ghost use Prim.Native.Nat.{_≤_, _<_};
 ghost use lib.ListN.{length, take, set};
-ghost use Rattle.categoric_build.specs.Steps.{place, movedUp, Put};
+ghost use Rattle.categoric_build.specs.forms.Insertion.{insertionIndex, shiftedUp, Inserted};
 
 // One category more, or another colour for its key; the count after it.
 pub fn insert(
@@ -13,24 +13,24 @@ pub fn insert(
     color: u32,
 ) -> usize
     requires { ⌜ (count < 256) × (length (now keys) ≡ 256) × (length (now colors) ≡ 256) ⌝ }
-    ensures { λ r. ⌜ Put key color (now (keys .entry)) (now (colors .entry)) count (now (keys .exit)) (now (colors .exit)) r ⌝ }
+    ensures { λ r. ⌜ Inserted key color (now (keys .entry)) (now (colors .entry)) count (now (keys .exit)) (now (colors .exit)) r ⌝ }
 {
-    let at = place_of(keys, count, key);
+    let at = insertion_index(keys, count, key);
     if at < count {
         if keys[at] <= key {
             store(keys, colors, at, key, color);
             return count;
         }
     }
-    move_up(keys, colors, at, count);
+    shift_up(keys, colors, at, count);
     store(keys, colors, at, key, color);
     count + 1
 }
 
 // The first place whose key is not below the key.
-fn place_of(keys: &[i64; 256], count: usize, key: i64) -> usize
+fn insertion_index(keys: &[i64; 256], count: usize, key: i64) -> usize
     requires { ⌜ (count ≤ 256) × (length (now keys) ≡ 256) ⌝ }
-    ensures { λ r. ⌜ r ≡ place key (take count (now (keys .entry))) ⌝ }
+    ensures { λ r. ⌜ r ≡ insertionIndex key (take count (now (keys .entry))) ⌝ }
 {
     let mut at: usize = 0;
     while at < count {
@@ -43,9 +43,9 @@ fn place_of(keys: &[i64; 256], count: usize, key: i64) -> usize
 }
 
 // Makes room at a place.
-fn move_up(keys: &mut [i64; 256], colors: &mut [u32; 256], at: usize, count: usize)
+fn shift_up(keys: &mut [i64; 256], colors: &mut [u32; 256], at: usize, count: usize)
     requires { ⌜ (at ≤ count) × (count < 256) × (length (now keys) ≡ 256) × (length (now colors) ≡ 256) ⌝ }
-    ensures { λ r. ⌜ (now (keys .exit) ≡ movedUp at count (now (keys .entry))) × (now (colors .exit) ≡ movedUp at count (now (colors .entry))) ⌝ }
+    ensures { λ r. ⌜ (now (keys .exit) ≡ shiftedUp at count (now (keys .entry))) × (now (colors .exit) ≡ shiftedUp at count (now (colors .entry))) ⌝ }
 {
     let mut i = count;
     while i > at {

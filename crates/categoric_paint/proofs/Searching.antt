@@ -6,11 +6,11 @@ use Prim.Native.Nat.{ℕ}
 use lib.Ieee.{Float}
 use lib.IntN.{ℤ}
 use Rattle.colormapper.specs.Unmappable.{excluded}
-use Rattle.categoric_search.specs.Narrow.{Narrow}
+use Rattle.categoric_search.specs.forms.Narrow.{Narrow}
 use Rattle.categoric_search.proofs.Sought.{sample-color}
 use Rattle.painting.specs.Painted.{plainPainted}
 use Rattle.categoric_paint.specs.declared.CategoricPaint.{CategoricPaint}
-use Rattle.categoric_paint.specs.KeyRules.{keySample, searchSample}
+use Rattle.categoric_paint.specs.forms.KeySamples.{keySample, searchSample}
 
 module _ {keys narrow : List ℤ} {count : ℕ} (colors : List ℕ) (p : CategoricPaint) (src : List Float) (n : Narrow keys count narrow) where
   pub searched-is : plainPainted (searchSample narrow colors p) src ≡ plainPainted (keySample keys colors count p) src

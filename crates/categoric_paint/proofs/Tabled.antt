@@ -11,7 +11,7 @@ use Rattle.painting.proofs.Lists.{lanes-list}
 use Rattle.painting.proofs.Masking.{masked-map}
 use Rattle.categoric_table.specs.Rule.{tableColor}
 use Rattle.categoric_paint.specs.declared.CategoricPaint.{CategoricPaint}
-use Rattle.categoric_paint.specs.TableRules.{tableSample, tableChunk}
+use Rattle.categoric_paint.specs.forms.TableSamples.{tableSample, tableChunk}
 
 module _ (l : ℕ) (lookup : List ℕ) (size : ℕ) (p : CategoricPaint) (v : List Float) (d : List ℕ) (m : l ≤ length v) (n : l ≤ length d)
     (e : LanesOf 0 l (λ k. tableSample lookup size p (getD v k nan)) d) where

@@ -1,2 +1,1 @@
-pub mod TableRules
-pub mod KeyRules
+pub mod forms

@@ -8,7 +8,7 @@ ghost use mathlib.Core.List.{map, _++_};
 ghost use Prim.Native.Nat.{_+_, _≤_};
 ghost use lib.ListN.{length, take, drop};
 ghost use Rattle.painting.specs.Painted.{plainPainted, chunkOver};
-ghost use Rattle.categoric_paint.specs.KeyRules.{keySample, searchSample};
+ghost use Rattle.categoric_paint.specs.forms.KeySamples.{keySample, searchSample};
 
 // ---- by keys that can be searched: the words of a block, a block of a raster, the samples after the last block, and a raster
 

@@ -11,7 +11,7 @@ ghost use lib.ListN.{length, getD, take, drop};
 ghost use Rattle.lists.specs.Lanes.{LanesOf};
 ghost use Rattle.painting.specs.Painted.{plainPainted, lanePainted, chunkOver};
 ghost use Rattle.painting.specs.Contracts.{laneCount};
-ghost use Rattle.categoric_paint.specs.TableRules.{tableSample, tableChunk};
+ghost use Rattle.categoric_paint.specs.forms.TableSamples.{tableSample, tableChunk};
 
 // ---- the words of a chunk at each lane count, in straight lines over the literal
 
@@ -20,7 +20,7 @@ fn words4(lookup: &[u32; 513], size: usize, p: CategoricPaint, v: [f32; 16]) -> 
     ensures { λ d. ⌜ LanesOf 0 4 (λ k. tableSample (now (lookup .entry)) size p (getD v k nan)) d ⌝ }
 {
     let words = categoric_table::gather(4, lookup, size, v);
-    categoric_table::known(4, size, p.nodata, p.exclusions, v, words)
+    categoric_table::mask_missing(4, size, p.nodata, p.exclusions, v, words)
 }
 
 fn words8(lookup: &[u32; 513], size: usize, p: CategoricPaint, v: [f32; 16]) -> [u32; 16]
@@ -28,7 +28,7 @@ fn words8(lookup: &[u32; 513], size: usize, p: CategoricPaint, v: [f32; 16]) -> 
     ensures { λ d. ⌜ LanesOf 0 8 (λ k. tableSample (now (lookup .entry)) size p (getD v k nan)) d ⌝ }
 {
     let words = categoric_table::gather(8, lookup, size, v);
-    categoric_table::known(8, size, p.nodata, p.exclusions, v, words)
+    categoric_table::mask_missing(8, size, p.nodata, p.exclusions, v, words)
 }
 
 fn words16(lookup: &[u32; 513], size: usize, p: CategoricPaint, v: [f32; 16]) -> [u32; 16]
@@ -36,7 +36,7 @@ fn words16(lookup: &[u32; 513], size: usize, p: CategoricPaint, v: [f32; 16]) ->
     ensures { λ d. ⌜ LanesOf 0 16 (λ k. tableSample (now (lookup .entry)) size p (getD v k nan)) d ⌝ }
 {
     let words = categoric_table::gather(16, lookup, size, v);
-    categoric_table::known(16, size, p.nodata, p.exclusions, v, words)
+    categoric_table::mask_missing(16, size, p.nodata, p.exclusions, v, words)
 }
 
 // ---- one chunk of a raster

@@ -21,10 +21,10 @@ use Rattle.categoric_table.specs.Rule.{categoricRuleColors}
 use Rattle.categoric_keys.specs.Rule.{eqZ, firstKey, keyRule, keyColor}
 use Rattle.categoric_keys.proofs.Ascent.{lt→le, lt-le, lt-apart, counted-below}
 use Rattle.categoric_keys.proofs.FirstKey.{eqZ→eq, same-key, found-at, found-nowhere}
-use Rattle.categoric_search.specs.Searchable.{near}
-use Rattle.categoric_search.specs.Narrow.{Narrow, none, keyOf}
+use Rattle.categoric_search.specs.forms.Searchable.{inKeyRange}
+use Rattle.categoric_search.specs.forms.Narrow.{Narrow, none, narrowKey}
 use Rattle.categoric_search.proofs.NearKeys.{they-ascend, they-are-near, near-below, none-is-not, key-below}
-use Rattle.categoric_search.specs.Halving.{colorAtEnd, searchColor}
+use Rattle.categoric_search.specs.forms.Bisection.{colorAtEnd, searchColor}
 use Rattle.categoric_search.proofs.Steps.{Rising, Narrowed, end-narrowed}
 
 module _ (keys : List ℤ) (count : ℕ) (narrow : List ℤ) (n : Narrow keys count narrow) where
@@ -99,14 +99,14 @@ module _ (keys : List ℤ) (count : ℕ) (narrow : List ℤ) (n : Narrow keys co
         go false holds fails = sym (ap (ruleColor (categoricRuleColors [] colors nodata)) (miss (λ e. T-not (eqZ (at place) z) (fails tt) (subst T (sym (same-key (at place) z e)) tt))))
 
   -- ---- a sample outside the range is no key
-  far : (z : ℤ) → (T (near z) → ⊥) → firstKey keys z 0 count ≡ unknown
-  far z h = found-nowhere keys z count (λ j q e. h (subst (λ (x : ℤ). T (near x)) e (they-are-near keys count (n .sought) j q)))
+  far : (z : ℤ) → (T (inKeyRange z) → ⊥) → firstKey keys z 0 count ≡ unknown
+  far z h = found-nowhere keys z count (λ j q e. h (subst (λ (x : ℤ). T (inKeyRange x)) e (they-are-near keys count (n .sought) j q)))
 
-  by-rule : (t : Truncated) → firstKey keys (keyOf t) 0 count ≡ keyRule keys count t
-  unfolding keyOf keyRule
-  by-rule (Whole z) = go (near z) (λ t. t)
+  by-rule : (t : Truncated) → firstKey keys (narrowKey t) 0 count ≡ keyRule keys count t
+  unfolding narrowKey keyRule
+  by-rule (Whole z) = go (inKeyRange z) (λ t. t)
     where
-      go : (b : Bool) → (T (near z) → T b) → firstKey keys (cond b z none) 0 count ≡ firstKey keys z 0 count
+      go : (b : Bool) → (T (inKeyRange z) → T b) → firstKey keys (cond b z none) 0 count ≡ firstKey keys z 0 count
       go true f = refl
       go false f = far none none-is-not ∙ sym (far z f)
   by-rule Outside = far none none-is-not
@@ -118,4 +118,4 @@ module _ (keys : List ℤ) (count : ℕ) (narrow : List ℤ) (n : Narrow keys co
 
   pub sample-color : (colors : List ℕ) (nodata : ℕ) (v : Float) → searchColor narrow colors nodata v ≡ keyColor keys colors count nodata v
   unfolding keyColor
-  sample-color colors nodata v = at-end (keyOf (truncated v)) (key-below (truncated v)) colors nodata ∙ ap (ruleColor (categoricRuleColors [] colors nodata)) (by-rule (truncated v))
+  sample-color colors nodata v = at-end (narrowKey (truncated v)) (key-below (truncated v)) colors nodata ∙ ap (ruleColor (categoricRuleColors [] colors nodata)) (by-rule (truncated v))

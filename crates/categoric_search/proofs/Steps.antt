@@ -15,7 +15,7 @@ use mir.Val.{boolByte, toZ, ofZ, SFits}
 use mir.ValLaws.{toZ-ofZ}
 use Rattle.categoric_keys.proofs.Ascent.{lt-le, not-le, lt-apart}
 use Rattle.categoric_keys.specs.Rule.{eqZ}
-use Rattle.categoric_search.specs.Halving.{reaches, leading, half, ended, colorAtEnd}
+use Rattle.categoric_search.specs.forms.Bisection.{reaches, firstStep, bisect, searched, colorAtEnd}
 
 -- of the numbers only the `width` ones from `place` on can be z: those from there on are above z, and the one at the place
 -- is not, unless it is the first
@@ -70,8 +70,8 @@ module _ (narrow : List ℤ) (z : ℤ) (up : Rising narrow) where
   all-reached place (all e s) = record { within = omega (arith, e); above = λ j p q. absurd (omega (arith, e)); start = s }
   all-reached place (some h m) = m
 
-  pub leading-step : {a : ℕ} → a ≡ leading narrow z → Narrowed narrow z 32 a
-  unfolding leading
+  pub leading-step : {a : ℕ} → a ≡ firstStep narrow z → Narrowed narrow z 32 a
+  unfolding firstStep
   leading-step {a} e =
       let r = reaches narrow z in
       let n0 : Reached narrow z 0 0 = all refl (λ p. absurd (omega arith)) in
@@ -102,13 +102,13 @@ module _ (narrow : List ℤ) (z : ℤ) (up : Rising narrow) where
         }
 
     -- the place after a step
-    one-step : {r : ℕ} → r ≡ half narrow step z place → Narrowed narrow z step r
-    unfolding half
+    one-step : {r : ℕ} → r ≡ bisect narrow step z place → Narrowed narrow z step r
+    unfolding bisect
     one-step {r} e = subst (Narrowed narrow z step) (sym e) (by-flag (leZ (at (place + step)) z) (λ t. t) (λ t. t))
 
   -- the first step and five halvings leave one place
-  pub end-narrowed : Narrowed narrow z 1 (ended narrow z)
-  unfolding ended
+  pub end-narrowed : Narrowed narrow z 1 (searched narrow z)
+  unfolding searched
   end-narrowed =
       let n1 = one-step 16 _ (leading-step refl) refl in
       let n2 = one-step 8 _ n1 refl in
@@ -119,25 +119,25 @@ module _ (narrow : List ℤ) (z : ℤ) (up : Rising narrow) where
 -- the colour by the places that the steps give
 pub color-at-end :
     (narrow : List ℤ) (colors : List ℕ) (nodata : ℕ) (z : ℤ) {a b c d e f : ℕ}
-    → a ≡ leading narrow z
-    → b ≡ half narrow 16 z a
-    → c ≡ half narrow 8 z b
-    → d ≡ half narrow 4 z c
-    → e ≡ half narrow 2 z d
-    → f ≡ half narrow 1 z e
+    → a ≡ firstStep narrow z
+    → b ≡ bisect narrow 16 z a
+    → c ≡ bisect narrow 8 z b
+    → d ≡ bisect narrow 4 z c
+    → e ≡ bisect narrow 2 z d
+    → f ≡ bisect narrow 1 z e
     → cond (eqZ (getD narrow f (pos 0)) z) (getD colors f 0) nodata ≡ colorAtEnd narrow colors nodata z
-unfolding colorAtEnd ended
+unfolding colorAtEnd searched
 color-at-end narrow colors nodata z p0 p1 p2 p3 p4 p5 =
     ap (λ (n : ℕ). cond (eqZ (getD narrow n (pos 0)) z) (getD colors n 0) nodata)
-    (p5 ∙ ap (half narrow 1 z) (p4 ∙ ap (half narrow 2 z) (p3 ∙ ap (half narrow 4 z) (p2 ∙ ap (half narrow 8 z) (p1 ∙ ap (half narrow 16 z) p0)))))
+    (p5 ∙ ap (bisect narrow 1 z) (p4 ∙ ap (bisect narrow 2 z) (p3 ∙ ap (bisect narrow 4 z) (p2 ∙ ap (bisect narrow 8 z) (p1 ∙ ap (bisect narrow 16 z) p0)))))
 
 -- a step stays within the places
 pub step-fits : (place step : ℕ) (t : Bool) → place + step * 2 ≤ 256 → (step * boolByte t < 2 ^ 32) × (place + step * boolByte t < 2 ^ 32)
 step-fits place step true h = (omega arith, omega arith)
 step-fits place step false h = (omega arith, omega arith)
 
-pub step-within : (narrow : List ℤ) (step : ℕ) (z : ℤ) (place : ℕ) → place + step * 2 ≤ 256 → half narrow step z place + step ≤ 256
-unfolding half
+pub step-within : (narrow : List ℤ) (step : ℕ) (z : ℤ) (place : ℕ) → place + step * 2 ≤ 256 → bisect narrow step z place + step ≤ 256
+unfolding bisect
 step-within narrow step z place h = by-flag (leZ (getD narrow (place + step) (pos 0)) z)
   where
     by-flag : (t : Bool) → place + step * boolByte t + step ≤ 256
@@ -163,13 +163,13 @@ pub leading-is :
     → e ≡ reaches narrow z 160
     → f ≡ reaches narrow z 192
     → g ≡ reaches narrow z 224
-    → 32 * (a + b + c + d + e + f + g) ≡ leading narrow z
-unfolding leading
+    → 32 * (a + b + c + d + e + f + g) ≡ firstStep narrow z
+unfolding firstStep
 leading-is narrow z p q r s t u v = omega (arith, p, q, r, s, t, u, v)
 
 -- and it stays within the places
-pub leading-within : (narrow : List ℤ) (z : ℤ) → leading narrow z + 32 ≤ 256
-unfolding leading
+pub leading-within : (narrow : List ℤ) (z : ℤ) → firstStep narrow z + 32 ≤ 256
+unfolding firstStep
 leading-within narrow z =
     let most : (place : ℕ) → reaches narrow z place ≤ 1 = λ place. flag-most (leZ (getD narrow place (pos 0)) z) in
     omega (arith, most 32, most 64, most 96, most 128, most 160, most 192, most 224)

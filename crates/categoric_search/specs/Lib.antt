@@ -1,4 +1,2 @@
 -- What the contracts cite: a step of the search.
-pub mod Halving
-pub mod Searchable
-pub mod Narrow
+pub mod forms

@@ -12,7 +12,7 @@ ghost use lib.Signed.{leZ};
 ghost use mir.Val.{boolByte};
 ghost use Rattle.categoric_keys.specs.Rule.{eqZ};
 ghost use Rattle.lists.specs.Lanes.{Lanes};
-ghost use Rattle.categoric_search.specs.Halving.{leading, half, searchColor, Within};
+ghost use Rattle.categoric_search.specs.forms.Bisection.{firstStep, bisect, searchColor, Within};
 
 // The colours of sixteen samples, by any 256 numbers: one step to the 32 places among which a key can be, and five halvings.
 pub fn colors_for_numeric_values(
@@ -25,19 +25,19 @@ pub fn colors_for_numeric_values(
 {
     let key = narrow::narrowed_samples(value);
     let a = leading_places(narrow, key);
-    let b = halved(narrow, 16, key, a);
-    let c = halved(narrow, 8, key, b);
-    let d = halved(narrow, 4, key, c);
-    let e = halved(narrow, 2, key, d);
-    let f = halved(narrow, 1, key, e);
+    let b = bisect(narrow, 16, key, a);
+    let c = bisect(narrow, 8, key, b);
+    let d = bisect(narrow, 4, key, c);
+    let e = bisect(narrow, 2, key, d);
+    let f = bisect(narrow, 1, key, e);
     let found = keys_at(narrow, f);
     let words = colors_at(colors, f);
-    known(key, found, words, nodata)
+    mask_missing(key, found, words, nodata)
 }
 
 // Each lane's leading place. Every lane reads the same seven numbers, so that this step needs no load by lane.
 fn leading_places(narrow: &[i32; 256], key: [i32; 16]) -> [u32; 16]
-    ensures { λ r. ⌜ (Lanes 0 16 r (λ k. leading (now (narrow .entry)) (getD key k (pos 0)))) × (Within 32 r) ⌝ }
+    ensures { λ r. ⌜ (Lanes 0 16 r (λ k. firstStep (now (narrow .entry)) (getD key k (pos 0)))) × (Within 32 r) ⌝ }
 {
     let mut result = [0u32; 16];
     let mut i: usize = 0;
@@ -50,7 +50,7 @@ fn leading_places(narrow: &[i32; 256], key: [i32; 16]) -> [u32; 16]
 
 // The first of the 32 places among which a key can be: how many of the numbers at every thirty-second place are not above it.
 fn leading_place(narrow: &[i32; 256], key: i32) -> u32
-    ensures { λ r. ⌜ r ≡ leading (now (narrow .entry)) key ⌝ }
+    ensures { λ r. ⌜ r ≡ firstStep (now (narrow .entry)) key ⌝ }
 {
     let a = reached(narrow[32], key);
     let b = reached(narrow[64], key);
@@ -70,9 +70,9 @@ fn reached(number: i32, key: i32) -> u32
 }
 
 // Each lane's half in which the key can be. The flag is a factor: as an `if` it would be a branch.
-fn halved(narrow: &[i32; 256], step: u32, key: [i32; 16], places: [u32; 16]) -> [u32; 16]
+fn bisect(narrow: &[i32; 256], step: u32, key: [i32; 16], places: [u32; 16]) -> [u32; 16]
     requires { ⌜ (0 < step) × (Within (step * 2) places) ⌝ }
-    ensures { λ r. ⌜ (Lanes 0 16 r (λ k. half (now (narrow .entry)) step (getD key k (pos 0)) (getD places k 0))) × (Within step r) ⌝ }
+    ensures { λ r. ⌜ (Lanes 0 16 r (λ k. bisect (now (narrow .entry)) step (getD key k (pos 0)) (getD places k 0))) × (Within step r) ⌝ }
 {
     let mut result = [0u32; 16];
     let mut i: usize = 0;
@@ -117,7 +117,7 @@ fn colors_at(colors: &[u32; 256], places: [u32; 16]) -> [u32; 16]
 }
 
 // The words of the samples whose key was found, nodata for others.
-fn known(key: [i32; 16], found: [i32; 16], words: [u32; 16], nodata: u32) -> [u32; 16]
+fn mask_missing(key: [i32; 16], found: [i32; 16], words: [u32; 16], nodata: u32) -> [u32; 16]
     ensures { λ r. ⌜ Lanes 0 16 r (λ k. cond (eqZ (getD found k (pos 0)) (getD key k (pos 0))) (getD words k 0) nodata) ⌝ }
 {
     let mut result = [0u32; 16];

@@ -9,8 +9,8 @@ ghost use lib.IntN.{pos};
 ghost use lib.ListN.{getD};
 ghost use Rattle.cast.specs.Truncated.{truncated};
 ghost use Rattle.lists.specs.Lanes.{Lanes};
-ghost use Rattle.categoric_search.specs.Searchable.{near, endsNear, searchable};
-ghost use Rattle.categoric_search.specs.Narrow.{Narrow, keyOf};
+ghost use Rattle.categoric_search.specs.forms.Searchable.{inKeyRange, endsInKeyRange, searchable};
+ghost use Rattle.categoric_search.specs.forms.Narrow.{Narrow, narrowKey};
 
 // ---- the keys, once a painting
 
@@ -20,25 +20,25 @@ pub fn searchable(keys: &[i64; 256], count: usize) -> bool
     ensures { λ r. ⌜ r ≡ searchable (now (keys .entry)) count ⌝ }
 {
     let up = categoric_keys::ascending(keys, count);
-    let ends = ends_near(keys, count);
+    let ends = ends_in_key_range(keys, count);
     up & ends
 }
 
 // Whether the first and the last of the counted keys lie in that range: those between them do where they ascend.
-fn ends_near(keys: &[i64; 256], count: usize) -> bool
+fn ends_in_key_range(keys: &[i64; 256], count: usize) -> bool
     requires { ⌜ count ≤ 256 ⌝ }
-    ensures { λ r. ⌜ r ≡ endsNear (now (keys .entry)) count ⌝ }
+    ensures { λ r. ⌜ r ≡ endsInKeyRange (now (keys .entry)) count ⌝ }
 {
     if count == 0 {
         return true;
     }
     let last = count - 1;
-    near(keys[0]) & near(keys[last])
+    in_key_range(keys[0]) & in_key_range(keys[last])
 }
 
 // Whether a key lies in that range.
-fn near(key: i64) -> bool
-    ensures { λ r. ⌜ r ≡ near key ⌝ }
+fn in_key_range(key: i64) -> bool
+    ensures { λ r. ⌜ r ≡ inKeyRange key ⌝ }
 {
     (-16777217 < key) & (key < 16777217)
 }
@@ -61,7 +61,7 @@ pub fn narrowed(keys: &[i64; 256], count: usize) -> [i32; 256]
 
 // Each sample's key.
 pub fn narrowed_samples(value: [f32; 16]) -> [i32; 16]
-    ensures { λ r. ⌜ Lanes (pos 0) 16 r (λ k. keyOf (truncated (getD value k nan))) ⌝ }
+    ensures { λ r. ⌜ Lanes (pos 0) 16 r (λ k. narrowKey (truncated (getD value k nan))) ⌝ }
 {
     let mut result = [0i32; 16];
     let mut i: usize = 0;
@@ -74,7 +74,7 @@ pub fn narrowed_samples(value: [f32; 16]) -> [i32; 16]
 
 // The key of a sample, or -16,777,217, which is no key, where it has none or one outside the range.
 fn narrowed_sample(value: f32) -> i32
-    ensures { λ r. ⌜ r ≡ keyOf (truncated value) ⌝ }
+    ensures { λ r. ⌜ r ≡ narrowKey (truncated value) ⌝ }
 {
     match cast::to_i64(value) {
         Truncated::Whole(key) => narrowed_key(key),
@@ -84,8 +84,8 @@ fn narrowed_sample(value: f32) -> i32
 
 // A key within the range as it is.
 fn narrowed_key(key: i64) -> i32
-    ensures { λ r. ⌜ r ≡ keyOf (Truncated.Whole key) ⌝ }
+    ensures { λ r. ⌜ r ≡ narrowKey (Truncated.Whole key) ⌝ }
 {
-    let kept = if near(key) { key } else { -16777217 };
+    let kept = if in_key_range(key) { key } else { -16777217 };
     kept as i32
 }

@@ -11,7 +11,7 @@ use Rattle.lists.proofs.LanesOf.{lane-at, lanes-agree}
 use Rattle.colormapper.specs.declared.Exclusions.{Exclusions}
 use Rattle.colormapper.specs.Unmappable.{excluded}
 use Rattle.categoric_table.specs.Rule.{tableColor}
-use Rattle.categoric_table.specs.InTable.{inTable, kept, shown}
+use Rattle.categoric_table.specs.forms.InTable.{inTable, clamp, mappableInTable}
 use Rattle.categoric_table.proofs.TableTest.{chosen}
 
 -- ---- both tests give nodata, so one choice does for two; a NaN, which is excluded, is in no table
@@ -23,8 +23,8 @@ one-choice false true b w nodata = refl
 one-choice false false true w nodata = refl
 one-choice false false false w nodata = refl
 
-masked-once : (e : Exclusions) (size : ℕ) (v : Float) (w nodata : ℕ) → cond (shown e size v) w nodata ≡ cond (excluded e v) nodata (cond (inTable size v) w nodata)
-unfolding shown excluded ne isNan
+masked-once : (e : Exclusions) (size : ℕ) (v : Float) (w nodata : ℕ) → cond (mappableInTable e size v) w nodata ≡ cond (excluded e v) nodata (cond (inTable size v) w nodata)
+unfolding mappableInTable excluded ne isNan
 masked-once e size nan w nodata = unfold inTable lt in refl
 masked-once e size (inf s) w nodata = one-choice (inTable size (inf s)) (eq (inf s) (e .nodata)) (eq (inf s) (e .zero)) w nodata
 masked-once e size (fin s m k) w nodata = one-choice (inTable size (fin s m k)) (eq (fin s m k) (e .nodata)) (eq (fin s m k) (e .zero)) w nodata
@@ -32,8 +32,8 @@ masked-once e size (fin s m k) w nodata = one-choice (inTable size (fin s m k)) 
 module _ (lanes : ℕ) (lookup : List ℕ) (size nodata : ℕ) (e : Exclusions) (value : List Float) (words r : List ℕ) where
   pub in-two-phases :
       size ≤ 513
-      → LanesOf 0 lanes (λ k. getD lookup (floorOf (kept size (getD value k nan))) 0) words
-      → LanesOf 0 lanes (λ k. cond (shown e size (getD value k nan)) (getD words k 0) nodata) r
+      → LanesOf 0 lanes (λ k. getD lookup (floorOf (clamp size (getD value k nan))) 0) words
+      → LanesOf 0 lanes (λ k. cond (mappableInTable e size (getD value k nan)) (getD words k 0) nodata) r
       → LanesOf 0 lanes (λ k. cond (excluded e (getD value k nan)) nodata (tableColor lookup size nodata (getD value k nan))) r
   in-two-phases h gathered known =
       lanes-agree known

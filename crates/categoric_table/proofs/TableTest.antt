@@ -18,13 +18,13 @@ use Rattle.floats.specs.RampIndex.{nought, floorOf}
 use Rattle.floats.proofs.Order.{or-l, lt-le, lt-lt, lt-irrefl-float}
 use Rattle.cast.specs.declared.Truncated.{Truncated}
 use Rattle.cast.specs.declared.Truncated.the-variants.{Whole, Outside}
-use Rattle.cast.specs.Truncated.{cut, truncated}
+use Rattle.cast.specs.Truncated.{truncatedFraction, truncated}
 use Rattle.cast.proofs.Value.{nothing}
 use Rattle.cast.proofs.Lossless.{exact}
 use Rattle.cast.proofs.Table.{tableEnd, Missed, missed}
 use Rattle.colormapper.specs.Rule.{Rule, word, unknown, ruleColor}
 use Rattle.categoric_table.specs.Rule.{tableRule, categoricRuleColors, tableColor}
-use Rattle.categoric_table.specs.InTable.{minusOne, limit, inTable, raised, kept, arrayEnd, isPlace}
+use Rattle.categoric_table.specs.forms.InTable.{minusOne, sizeLimit, inTable, atLeastZero, clamp, arrayEnd, isIndex}
 
 by-cond : (P : Float → Type 0) (b : Bool) (x y : Float) → (T b → P x) → (T (not b) → P y) → P (cond b x y)
 by-cond P true x y f g = f tt
@@ -37,8 +37,8 @@ both-ways true false f g = absurd (f tt)
 both-ways false true f g = absurd (g tt)
 both-ways false false f g = refl
 
-limit-value : (n : ℕ) → suc n ≤ 513 → HasValue (limit (suc n)) false (suc n) 1
-unfolding limit
+limit-value : (n : ℕ) → suc n ≤ 513 → HasValue (sizeLimit (suc n)) false (suc n) 1
+unfolding sizeLimit
 limit-value n h = exact (pos (suc n)) (le-trans h (lit≤ tt))
 
 -- a / c below n, where k / d is n
@@ -88,7 +88,7 @@ missed-rule size h (Whole (pos n)) k = rw (le-ltb n size (omega arith))
 missed-rule size h (Whole (negsuc n)) k = refl
 missed-rule size h Outside k = refl
 
-positive-rule : (size a c : ℕ) → size ≤ 513 → 0 < c → tableRule size (cut false a c) ≡ cond (ltb (a / c) size) (word (a / c)) unknown
+positive-rule : (size a c : ℕ) → size ≤ 513 → 0 < c → tableRule size (truncatedFraction false a c) ≡ cond (ltb (a / c) size) (word (a / c)) unknown
 unfolding tableRule
 positive-rule size a c h C = go (ltb a (2 ^ 63 * c)) (nltb→le a (2 ^ 63 * c))
   where
@@ -105,14 +105,14 @@ unfolding lt
 above-minus-one m e = lt-ltb 0 (1 * 1 * down e + m * up e * 1) (omega (arith, down-pos e))
 
 empty-test : (v : Float) → inTable 0 v ≡ false
-unfolding inTable limit
+unfolding inTable sizeLimit
 empty-test v = is-false (lt minusOne v && lt v minusOne) (not-T (lt minusOne v && lt v minusOne) (λ t. lt-irrefl-float minusOne (lt-lt minusOne v minusOne (and-l (lt minusOne v) (lt v minusOne) t) (and-r (lt minusOne v) (lt v minusOne) t))))
 
 abbrev Looked : ℕ → Float → Type 0
-Looked size v = tableRule size (truncated v) ≡ cond (inTable size v) (word (floorOf (kept size v))) unknown
+Looked size v = tableRule size (truncated v) ≡ cond (inTable size v) (word (floorOf (clamp size v))) unknown
 
 -- from 0 on: the test is that of the whole part, which is the place, raised or not
-raised-place : (m : ℕ) (e : ℤ) → floorOf (raised (fin false m e)) ≡ m * up e / down e
+raised-place : (m : ℕ) (e : ℤ) → floorOf (atLeastZero (fin false m e)) ≡ m * up e / down e
 unfolding lt
 raised-place m e = by-cond (λ x. floorOf x ≡ m * up e / down e) (lt nought (fin false m e)) (fin false m e) nought (λ t. refl) (λ t. omega (arith, none-whole t))
   where
@@ -120,21 +120,21 @@ raised-place m e = by-cond (λ x. floorOf x ≡ m * up e / down e) (lt nought (f
     none-whole t = div-lt-iff-lt-mul (down-pos e) .1 (let l = nltb→le (0 * 1 * down e) (m * up e * 1) t in omega (arith, down-pos e))
 
 positive-looked : (n m : ℕ) (e : ℤ) → suc n ≤ 513 → Looked (suc n) (fin false m e)
-unfolding truncated inTable kept
+unfolding truncated inTable clamp
 positive-looked n m e h =
     positive-rule (suc n) (m * up e) (down e) h (down-pos e)
     ∙ chosen (ltb (m * up e / down e) (suc n))
-    ∙ sym (ap (λ (b : Bool). cond (b && ltb (m * up e / down e) (suc n)) (word (floorOf (raised (cond (ltb (m * up e / down e) (suc n)) (fin false m e) nought)))) unknown) (above-minus-one m e))
-    ∙ sym (ap (λ (b : Bool). cond (lt minusOne (fin false m e) && b) (word (floorOf (raised (cond b (fin false m e) nought)))) unknown) (whole-below m e (limit (suc n)) (suc n) (limit-value n h)))
+    ∙ sym (ap (λ (b : Bool). cond (b && ltb (m * up e / down e) (suc n)) (word (floorOf (atLeastZero (cond (ltb (m * up e / down e) (suc n)) (fin false m e) nought)))) unknown) (above-minus-one m e))
+    ∙ sym (ap (λ (b : Bool). cond (lt minusOne (fin false m e) && b) (word (floorOf (atLeastZero (cond b (fin false m e) nought)))) unknown) (whole-below m e (sizeLimit (suc n)) (suc n) (limit-value n h)))
   where
-    chosen : (b : Bool) → cond b (word (m * up e / down e)) unknown ≡ cond b (word (floorOf (raised (cond b (fin false m e) nought)))) unknown
+    chosen : (b : Bool) → cond b (word (m * up e / down e)) unknown ≡ cond b (word (floorOf (atLeastZero (cond b (fin false m e) nought)))) unknown
     chosen true = sym (ap word (raised-place m e))
     chosen false = refl
 
 -- below 0: above -1 the number is 0, which is the place
-negative-place : (size m : ℕ) (e : ℤ) → floorOf (kept size (fin true m e)) ≡ 0
-unfolding kept lt
-negative-place size m e = by-cond (λ x. floorOf (raised x) ≡ 0) (lt (fin true m e) (limit size)) (fin true m e) nought (λ t. refl) (λ t. refl)
+negative-place : (size m : ℕ) (e : ℤ) → floorOf (clamp size (fin true m e)) ≡ 0
+unfolding clamp lt
+negative-place size m e = by-cond (λ x. floorOf (atLeastZero x) ≡ 0) (lt (fin true m e) (sizeLimit size)) (fin true m e) nought (λ t. refl) (λ t. refl)
 
 near : (n m : ℕ) (e : ℤ) → T (lt minusOne (fin true m e)) → tableRule (suc n) (truncated (fin true m e)) ≡ word 0
 unfolding lt truncated tableRule
@@ -160,44 +160,44 @@ unfolding inTable
 negative-looked n m e h =
     by-test (lt minusOne (fin true m e)) (tableRule (suc n) (truncated (fin true m e))) (word 0) unknown (near n m e) (away (suc n) h (fin true m e))
     ∙ sym (ap (λ (b : Bool). cond b (word 0) unknown) (and-true (lt minusOne (fin true m e))))
-    ∙ sym (ap (λ (b : Bool). cond (lt minusOne (fin true m e) && b) (word 0) unknown) (negative-below m e (limit (suc n)) n (limit-value n h)))
+    ∙ sym (ap (λ (b : Bool). cond (lt minusOne (fin true m e) && b) (word 0) unknown) (negative-below m e (sizeLimit (suc n)) n (limit-value n h)))
     ∙ sym (ap (λ (k : ℕ). cond (inTable (suc n) (fin true m e)) (word k) unknown) (negative-place (suc n) m e))
 
 looked : (size : ℕ) → size ≤ 513 → (v : Float) → Looked size v
 unfolding lt truncated tableRule inTable
-looked zero h v = none (truncated v) ∙ sym (ap (λ (b : Bool). cond b (word (floorOf (kept 0 v))) unknown) (empty-test v))
+looked zero h v = none (truncated v) ∙ sym (ap (λ (b : Bool). cond b (word (floorOf (clamp 0 v))) unknown) (empty-test v))
 looked (suc n) h nan = refl
 looked (suc n) h (inf true) = refl
-looked (suc n) h (inf false) = sym (ap (λ (b : Bool). cond b (word (floorOf (kept (suc n) (inf false)))) unknown) (infinity-above (limit (suc n)) (suc n) (limit-value n h)))
+looked (suc n) h (inf false) = sym (ap (λ (b : Bool). cond b (word (floorOf (clamp (suc n) (inf false)))) unknown) (infinity-above (sizeLimit (suc n)) (suc n) (limit-value n h)))
 looked (suc n) h (fin true m e) = negative-looked n m e h
 looked (suc n) h (fin false m e) = positive-looked n m e h
 
 -- ---- what is kept is a place of the array, and a place is one whose whole part can be read off
-limit-le : (size : ℕ) → size ≤ 513 → T (le (limit size) arrayEnd)
-unfolding limit le lt eq
+limit-le : (size : ℕ) → size ≤ 513 → T (le (sizeLimit size) arrayEnd)
+unfolding sizeLimit le lt eq
 limit-le zero h = tt
-limit-le (suc n) h = le-of-values (limit (suc n)) arrayEnd (suc n) 1 513 1 (lit< tt) (lit< tt) (limit-value n h) (refl, refl) (omega arith)
+limit-le (suc n) h = le-of-values (sizeLimit (suc n)) arrayEnd (suc n) 1 513 1 (lit< tt) (lit< tt) (limit-value n h) (refl, refl) (omega arith)
 
 both : (a b : Bool) → T a → T b → T (a && b)
 both true b s t = t
 
-pub kept-place : (size : ℕ) → size ≤ 513 → (v : Float) → T (isPlace (kept size v))
-unfolding isPlace kept le lt eq
-kept-place size h v = by-cond (λ x. T (isPlace x)) (lt nought low) low nought (λ t. both (le nought low) (lt low arrayEnd) (or-l (lt nought low) (eq nought low) t) under) (λ t. tt)
+pub kept-place : (size : ℕ) → size ≤ 513 → (v : Float) → T (isIndex (clamp size v))
+unfolding isIndex clamp le lt eq
+kept-place size h v = by-cond (λ x. T (isIndex x)) (lt nought low) low nought (λ t. both (le nought low) (lt low arrayEnd) (or-l (lt nought low) (eq nought low) t) under) (λ t. tt)
   where
     low : Float
-    low = cond (lt v (limit size)) v nought
+    low = cond (lt v (sizeLimit size)) v nought
 
     under : T (lt low arrayEnd)
-    under = by-cond (λ x. T (lt x arrayEnd)) (lt v (limit size)) v nought (λ t. lt-le v (limit size) arrayEnd t (limit-le size h)) (λ t. tt)
+    under = by-cond (λ x. T (lt x arrayEnd)) (lt v (sizeLimit size)) v nought (λ t. lt-le v (sizeLimit size) arrayEnd t (limit-le size h)) (λ t. tt)
 
-module _ (x : Float) (p : T (isPlace x)) where
+module _ (x : Float) (p : T (isIndex x)) where
   pub place-from : T (le nought x)
-  unfolding isPlace
+  unfolding isIndex
   place-from = and-l (le nought x) (lt x arrayEnd) p
 
   place-under : T (lt x arrayEnd)
-  unfolding isPlace
+  unfolding isIndex
   place-under = and-r (le nought x) (lt x arrayEnd) p
 
   pub place-below : T (lt x (fin false 1 (pos 10)))
@@ -211,19 +211,19 @@ whole-in (inf s) t = lit< tt
 whole-in (fin true m e) t = lit< tt
 whole-in (fin false m e) t = ltb→lt (m * up e / down e) 513 (subst T (whole-below m e arrayEnd 513 (refl, refl)) t)
 
-pub place-lt : (x : Float) → T (isPlace x) → floorOf x < 513
+pub place-lt : (x : Float) → T (isIndex x) → floorOf x < 513
 place-lt x p = whole-in x (place-under x p)
 
 -- ---- a word looked up first and replaced outside
-pub chosen : (lookup : List ℕ) (size nodata : ℕ) → size ≤ 513 → (v : Float) → cond (inTable size v) (getD lookup (floorOf (kept size v)) 0) nodata ≡ tableColor lookup size nodata v
+pub chosen : (lookup : List ℕ) (size nodata : ℕ) → size ≤ 513 → (v : Float) → cond (inTable size v) (getD lookup (floorOf (clamp size v)) 0) nodata ≡ tableColor lookup size nodata v
 unfolding tableColor
 chosen lookup size nodata h v = go (inTable size v) ∙ sym (ap (ruleColor (categoricRuleColors lookup [] nodata)) (looked size h v))
   where
-    go : (b : Bool) → cond b (getD lookup (floorOf (kept size v)) 0) nodata ≡ ruleColor (categoricRuleColors lookup [] nodata) (cond b (word (floorOf (kept size v))) unknown)
+    go : (b : Bool) → cond b (getD lookup (floorOf (clamp size v)) 0) nodata ≡ ruleColor (categoricRuleColors lookup [] nodata) (cond b (word (floorOf (clamp size v))) unknown)
     go true = refl
     go false = refl
 
-pub limit-above : (size : ℕ) → (size ≡ 0 → ⊥) → ofInt binary32 (pos size) ≡ limit size
-unfolding limit
+pub limit-above : (size : ℕ) → (size ≡ 0 → ⊥) → ofInt binary32 (pos size) ≡ sizeLimit size
+unfolding sizeLimit
 limit-above zero h = absurd (h refl)
 limit-above (suc n) h = refl

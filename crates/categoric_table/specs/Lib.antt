@@ -1,2 +1,2 @@
 pub mod Rule
-pub mod InTable
+pub mod forms

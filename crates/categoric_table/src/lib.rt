@@ -9,15 +9,15 @@ ghost use lib.Ieee.{nan};
 ghost use lib.ListN.{getD};
 ghost use Rattle.floats.specs.RampIndex.{nought, floorOf};
 ghost use Rattle.lists.specs.Lanes.{LanesOf};
-ghost use Rattle.categoric_table.specs.InTable.{limit, inTable, shown, kept, isPlace};
+ghost use Rattle.categoric_table.specs.forms.InTable.{sizeLimit, inTable, mappableInTable, clamp, isIndex};
 
-// A chunk's samples are looked up in two phases, `gather` and then `known` (proofs/Phases.antt): a load under a branch is
+// A chunk's samples are looked up in two phases, `gather` and then `mask_missing` (proofs/Phases.antt): a load under a branch is
 // not vectorised. Painters call both with a literal lane count.
 
 // Each lane's word, the first for a sample that is not from 0 to below the size.
 pub fn gather(lanes: usize, lookup: &[u32; 513], size: usize, value: [f32; 16]) -> [u32; 16]
     requires { ⌜ (lanes ≤ 16) × (size ≤ 513) ⌝ }
-    ensures { λ r. ⌜ LanesOf 0 lanes (λ k. getD (now (lookup .entry)) (floorOf (kept size (getD value k nan))) 0) r ⌝ }
+    ensures { λ r. ⌜ LanesOf 0 lanes (λ k. getD (now (lookup .entry)) (floorOf (clamp size (getD value k nan))) 0) r ⌝ }
 {
     let places = clamped_lanes(lanes, size, value);
     words_at(lanes, lookup, places)
@@ -26,7 +26,7 @@ pub fn gather(lanes: usize, lookup: &[u32; 513], size: usize, value: [f32; 16]) 
 // Each lane clamped. A loop of its own: with `words_at` it would be too long for the compiler to unroll, and so not vectorised.
 fn clamped_lanes(lanes: usize, size: usize, value: [f32; 16]) -> [f32; 16]
     requires { ⌜ (lanes ≤ 16) × (size ≤ 513) ⌝ }
-    ensures { λ r. ⌜ LanesOf nought lanes (λ k. kept size (getD value k nan)) r ⌝ }
+    ensures { λ r. ⌜ LanesOf nought lanes (λ k. clamp size (getD value k nan)) r ⌝ }
 {
     let mut result = [0.0f32; 16];
     let mut i: usize = 0;
@@ -39,7 +39,7 @@ fn clamped_lanes(lanes: usize, size: usize, value: [f32; 16]) -> [f32; 16]
 
 // The words at the places' whole parts.
 fn words_at(lanes: usize, lookup: &[u32; 513], places: [f32; 16]) -> [u32; 16]
-    requires { ⌜ (lanes ≤ 16) × ((k : ℕ) → k < lanes → T (isPlace (getD places k nan))) ⌝ }
+    requires { ⌜ (lanes ≤ 16) × ((k : ℕ) → k < lanes → T (isIndex (getD places k nan))) ⌝ }
     ensures { λ r. ⌜ LanesOf 0 lanes (λ k. getD (now (lookup .entry)) (floorOf (getD places k nan)) 0) r ⌝ }
 {
     let mut result = [0u32; 16];
@@ -53,7 +53,7 @@ fn words_at(lanes: usize, lookup: &[u32; 513], places: [f32; 16]) -> [u32; 16]
 }
 
 // The words of the samples in the table that are not excluded, nodata for others. A NaN is not in the table.
-pub fn known(
+pub fn mask_missing(
     lanes: usize,
     size: usize,
     nodata: u32,
@@ -62,7 +62,7 @@ pub fn known(
     words: [u32; 16],
 ) -> [u32; 16]
     requires { ⌜ (lanes ≤ 16) × (size ≤ 513) ⌝ }
-    ensures { λ r. ⌜ LanesOf 0 lanes (λ k. cond (shown exclusions size (getD value k nan)) (getD words k 0) nodata) r ⌝ }
+    ensures { λ r. ⌜ LanesOf 0 lanes (λ k. cond (mappableInTable exclusions size (getD value k nan)) (getD words k 0) nodata) r ⌝ }
 {
     let absent = exclusions.nodata;
     let zero = exclusions.zero;
@@ -85,11 +85,11 @@ fn in_table(size: usize, value: f32) -> bool
     (value > -1.0) & (value < limit_of(size))
 }
 
-// The sample itself from 0 to below the size, else 0. The first choice is by a test that `known` makes too, and in this
+// The sample itself from 0 to below the size, else 0. The first choice is by a test that `mask_missing` makes too, and in this
 // form the second is one instruction.
 fn clamped(size: usize, value: f32) -> f32
     requires { ⌜ size ≤ 513 ⌝ }
-    ensures { λ r. ⌜ r ≡ kept size value ⌝ }
+    ensures { λ r. ⌜ r ≡ clamp size value ⌝ }
 {
     let low = if value < limit_of(size) { value } else { 0.0 };
     if low > 0.0 { low } else { 0.0 }
@@ -98,7 +98,7 @@ fn clamped(size: usize, value: f32) -> f32
 // The size as a float: a sample is compared before it is cut. An empty table has no sample below its limit and above -1.
 fn limit_of(size: usize) -> f32
     requires { ⌜ size ≤ 513 ⌝ }
-    ensures { λ r. ⌜ r ≡ limit size ⌝ }
+    ensures { λ r. ⌜ r ≡ sizeLimit size ⌝ }
 {
     if size == 0 { -1.0 } else { size as f32 }
 }

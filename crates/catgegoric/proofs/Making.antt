@@ -27,14 +27,14 @@ use Rattle.categoric_lists.specs.Whole.{whole}
 use Rattle.categoric_build.specs.Table.{tableSize, table}
 use Rattle.categoric_lists.specs.Range.{rangeCount, tooWide, countIs}
 use Rattle.categoric_lists.specs.Keys.{keysRefusal}
-use Rattle.categoric_build.specs.Steps.{Holds}
-use Rattle.catgegoric.specs.Made.{emptyCategoric, recordOf, madeUnless, manyRefusal, valuesRefusal, wideRefusal, rangeRefusal}
+use Rattle.categoric_build.specs.forms.Insertion.{HoldsCategories}
+use Rattle.catgegoric.specs.Made.{emptyCategoric, recordOf, madeUnless, manyRefusal, valuesRefusal, wideRefusal, valueRangeRefusal}
 use Rattle.categoric_lists.proofs.Numbers.{up-to}
 use Rattle.categoric_build.proofs.Inserting.{counted}
 
 -- ---- the record
 -- the arrays that hold some categories, with the table of what is counted in them
-pub recorded : {cs : List Category} {keys : List ℤ} {colors : List ℕ} {count : ℕ} → Holds cs keys colors count
+pub recorded : {cs : List Category} {keys : List ℤ} {colors : List ℕ} {count : ℕ} → HoldsCategories cs keys colors count
     → _≡_ {A = CategoricNumeric} (record { keys = keys; colors = colors; count = count; lookup = padded 0 513 (table (take count keys) (take count colors)); «lookup_count» = tableSize (take count keys) }) (recordOf cs)
 unfolding recordOf
 recorded {cs} {keys} {colors} {count} s =
@@ -83,8 +83,8 @@ wide-checks start end =
     then (refuseIf (tooWide start end) RangeTooWide) (refuseIf (ltZ (pos 256) (rangeCount start end)) TooManyCategories)
     (check (tooWide start end) RangeTooWide) (check (ltZ (pos 256) (rangeCount start end)) TooManyCategories)
 
-pub range-checks : (start end : ℤ) (colors : ℕ) → Checks (rangeRefusal start end colors)
-unfolding rangeRefusal
+pub range-checks : (start end : ℤ) (colors : ℕ) → Checks (valueRangeRefusal start end colors)
+unfolding valueRangeRefusal
 range-checks start end colors =
     then (wideRefusal start end) (refuseIf (not (countIs (rangeCount start end) colors)) ColorCountDiffers)
     (wide-checks start end) (check (not (countIs (rangeCount start end) colors)) ColorCountDiffers)
@@ -139,9 +139,9 @@ module _ (start end : ℤ) (e : wideRefusal start end Done ≡ Done) where
   pub wide-few : whole (rangeCount start end) ≤ 256
   wide-few = up-to (rangeCount start end) 256 (passed (ltZ (pos 256) (rangeCount start end)) TooManyCategories Done (wide-clear .1) .0)
 
-module _ (start end : ℤ) (colors : ℕ) (e : rangeRefusal start end colors Done ≡ Done) where
+module _ (start end : ℤ) (colors : ℕ) (e : valueRangeRefusal start end colors Done ≡ Done) where
   range-clear : (wideRefusal start end Done ≡ Done) × (refuseIf (not (countIs (rangeCount start end) colors)) ColorCountDiffers Done ≡ Done)
-  unfolding rangeRefusal
+  unfolding valueRangeRefusal
   range-clear = all-clear (wideRefusal start end) (wide-checks start end) (refuseIf (not (countIs (rangeCount start end) colors)) ColorCountDiffers Done) e
 
   pub range-wide : wideRefusal start end Done ≡ Done

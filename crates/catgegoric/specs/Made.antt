@@ -66,12 +66,12 @@ unfoldable pub wideRefusal : (start end : ℤ) → Answer → Answer
 wideRefusal start end rest = refuseIf (tooWide start end) RangeTooWide (refuseIf (ltZ (pos 256) (rangeCount start end)) TooManyCategories rest)
 
 -- 12; 11; 9 the list's length differs from the count
-unfoldable pub rangeRefusal : (start end : ℤ) (colors : ℕ) → Answer → Answer
-rangeRefusal start end colors rest = wideRefusal start end (refuseIf (not (countIs (rangeCount start end) colors)) ColorCountDiffers rest)
+unfoldable pub valueRangeRefusal : (start end : ℤ) (colors : ℕ) → Answer → Answer
+valueRangeRefusal start end colors rest = wideRefusal start end (refuseIf (not (countIs (rangeCount start end) colors)) ColorCountDiffers rest)
 
 -- 12; 11; 9; 17
 abbrev pub forValueRange : (start end : ℤ) (colors : List ℕ) → MadeCategoric
-forValueRange start end colors = madeUnless (rangeRefusal start end (length colors) (keysRefusal (rangeKeys start end))) (rangeKeys start end) colors
+forValueRange start end colors = madeUnless (valueRangeRefusal start end (length colors) (keysRefusal (rangeKeys start end))) (rangeKeys start end) colors
 
 -- 12; 11; 17
 abbrev pub forValueRangeFromRamp : (start end : ℤ) (cmap : List ℕ) → MadeCategoric

@@ -13,7 +13,7 @@ ghost use Rattle.lists.specs.Padded.{padded};
 ghost use Rattle.categoric_lists.specs.Keys.{keysRefusal};
 ghost use Rattle.categoric_build.specs.Categories.{categories};
 ghost use Rattle.categoric_build.specs.Table.{tableSize, table};
-ghost use Rattle.catgegoric.specs.Made.{emptyCategoric, recordOf, madeUnless, manyRefusal, valuesRefusal, forValues, forValuesFromRamp, wideRefusal, rangeRefusal, forValueRange, forValueRangeFromRamp, categoricRefusal, categoricColors};
+ghost use Rattle.catgegoric.specs.Made.{emptyCategoric, recordOf, madeUnless, manyRefusal, valuesRefusal, forValues, forValuesFromRamp, wideRefusal, valueRangeRefusal, forValueRange, forValueRangeFromRamp, categoricRefusal, categoricColors};
 
 // The first `count` keys, ascending, with their colours, and the table's first `lookup_count` words. Other places are 0.
 #[repr(C)]
@@ -80,7 +80,7 @@ impl CategoricNumeric {
     pub fn for_value_range(start: i64, end: i64, colors: &[u32]) -> MadeCategoric
         ensures { λ r. ⌜ r ≡ forValueRange start end (now (colors .entry)) ⌝ }
     {
-        let answer = range_refusal(start, end, colors.len());
+        let answer = value_range_refusal(start, end, colors.len());
         if let Answer::Refused(_) = answer {
             return refused(answer);
         }
@@ -130,8 +130,8 @@ fn many_refusal(count: usize) -> Answer
 
 // ---- what is refused of a range
 
-fn range_refusal(start: i64, end: i64, colors: usize) -> Answer
-    ensures { λ r. ⌜ r ≡ rangeRefusal start end colors Done ⌝ }
+fn value_range_refusal(start: i64, end: i64, colors: usize) -> Answer
+    ensures { λ r. ⌜ r ≡ valueRangeRefusal start end colors Done ⌝ }
 {
     let answer = wide_refusal(start, end);
     if let Answer::Refused(_) = answer {

@@ -5,9 +5,9 @@ use Rattle.banded_columns.specs.Band.{lastOf}
 use Rattle.banded_rule.specs.PlainRule.{firstBand, edges, plainRule}
 use Rattle.banded_lanes.specs.Edges.{edged}
 use Rattle.banded_lanes.specs.LaneRule.{scanned, laneColors}
-use Rattle.banded_lanes.specs.Sound.{eachBand, eachAfter, eachNext, firstAndLast}
-use Rattle.claim_chunking.specs.Cases.{holds, allHold, cases}
+use Rattle.banded_lanes.specs.Conditions.{eachBand, eachAfter, eachNext, firstAndLast}
+use Rattle.claim_chunking.specs.Cases.{caseHolds, allCasesHold, cases}
 
-pub all-hold : T (allHold cases)
-unfolding allHold holds cases lastOf firstBand edges plainRule edged scanned laneColors eachBand eachAfter eachNext firstAndLast add sub lt le isNan ofBits
+pub all-hold : T (allCasesHold cases)
+unfolding allCasesHold caseHolds cases lastOf firstBand edges plainRule edged scanned laneColors eachBand eachAfter eachNext firstAndLast add sub lt le isNan ofBits
 all-hold = tt

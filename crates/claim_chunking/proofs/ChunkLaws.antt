@@ -31,13 +31,13 @@ use Rattle.legend.specs.declared.Legend.{Legend}
 use Rattle.legend.specs.declared.LegendKind.{LegendKind}
 use Rattle.legend.specs.declared.LegendKind.the-variants as kind
 use Rattle.legend.specs.Painters.{linearPainter, bandsPainter, categoricPainter, painterIn}
-use Rattle.claim_chunking.specs.Rule.{LawfulIn, OddIn}
+use Rattle.claim_chunking.specs.Rule.{LawfulIn, RoundingExceptionIn}
 use Rattle.claim_chunking.proofs.Alike.{Alike, one, zeros}
 use Rattle.claim_chunking.proofs.Zeros.{unmappable-zeros, lane-zeros, plain-zeros, banded-zeros, categoric-zeros}
 
 -- ---- how the lanes of a kind may differ: at the samples of Odd, with the two colours x and y
-abbrev terms : (Odd : Float → Type 0) (x y : ℕ) → Terms
-terms Odd x y = record { Alike = Alike; Odd = Odd; lane-color = x; plain-color = y }
+abbrev terms : (RoundingException : Float → Type 0) (x y : ℕ) → Terms
+terms RoundingException x y = record { Alike = Alike; RoundingException = RoundingException; lane-color = x; plain-color = y }
 
 module _ (test : Float → Bool) (nodata : ℕ) (test-alike : (v w : Float) → Alike v w → test v ≡ test w) where
   -- unmappable samples get nodata, the others the colour of a rule
@@ -45,22 +45,22 @@ module _ (test : Float → Bool) (nodata : ℕ) (test-alike : (v w : Float) → 
   masked-alike rule g v w a = ap₂ (λ (b : Bool) (c : ℕ). cond b nodata c) (test-alike v w a) (g v w a)
 
   -- ---- lanes with a rule each: from the law of one mappable sample
-  module _ (Odd : Float → Type 0) (x y : ℕ) (lane plain : Float → ℕ) (law : (v : Float) → test v ≡ false → (lane v ≡ plain v) ⊎ Odd v)
-      (odd : (v : Float) → Odd v → (test v ≡ false) × (lane v ≡ x) × (plain v ≡ y)) (lane-alike : (v w : Float) → Alike v w → lane v ≡ lane w) (L : ℕ) where
+  module _ (RoundingException : Float → Type 0) (x y : ℕ) (lane plain : Float → ℕ) (law : (v : Float) → test v ≡ false → (lane v ≡ plain v) ⊎ RoundingException v)
+      (odd : (v : Float) → RoundingException v → (test v ≡ false) × (lane v ≡ x) × (plain v ≡ y)) (lane-alike : (v w : Float) → Alike v w → lane v ≡ lane w) (L : ℕ) where
     abbrev chunk : List Float → List ℕ
     chunk vs = masked test nodata vs (map lane vs)
 
     at : (c : List Float) (k : ℕ) → k < length c → getD (chunk c) k 0 ≡ maskedColor test nodata lane (getD c k nan)
     at c k h = ap (λ (w : List ℕ). getD w k 0) (masked-map test nodata lane c) ∙ sym (getD-map-in (maskedColor test nodata lane) c k nan 0 h)
 
-    either : (v : Float) (b : Bool) → test v ≡ b → (cond b nodata (lane v) ≡ cond b nodata (plain v)) ⊎ Odd v
+    either : (v : Float) (b : Bool) → test v ≡ b → (cond b nodata (lane v) ≡ cond b nodata (plain v)) ⊎ RoundingException v
     either v true e = inl refl
     either v false e = law v e
 
     mapped : (v : Float) (rule : Float → ℕ) → test v ≡ false → maskedColor test nodata rule v ≡ rule v
     mapped v rule e = rw e
 
-    pub by-lanes : ChunkLaw L chunk (maskedColor test nodata plain) (terms Odd x y)
+    pub by-lanes : ChunkLaw L chunk (maskedColor test nodata plain) (terms RoundingException x y)
     by-lanes =
         record {
           long = λ c e. length-masked test nodata c (map lane c) (length-map c lane) ∙ e;
@@ -120,7 +120,7 @@ module _ (l : Legend) (nodata : Nodata) (L : ℕ) where
   test-alike = by-zeros test (λ s t. unmappable-zeros s t nodata flag)
 
   abbrev pub termsIn : LegendKind → Terms
-  termsIn k = terms (OddIn k l nodata) (getD (l .linear .cmap) 1 0) (getD (l .linear .cmap) 0 0)
+  termsIn k = terms (RoundingExceptionIn k l nodata) (getD (l .linear .cmap) 1 0) (getD (l .linear .cmap) 0 0)
 
   pub of-kind : (k : LegendKind) → T (fits binary32 (l .linear .start)) → T (fits binary32 (l .linear .end)) → LawfulIn k l → PainterLaw (painterIn k l nodata) L (termsIn k)
   unfolding linearPainter bandsPainter categoricPainter
@@ -128,7 +128,7 @@ module _ (l : Legend) (nodata : Nodata) (L : ℕ) where
       let m = l .linear in let u = linearColors (m .cmap) (l .«mapping_config») in let nd = l .«mapping_config» .«nodata_color» in
       let lane = linear.laneColor (m .cmap) (m .start) (m .end) u in let plain = linear.plainColor (m .cmap) (m .start) (m .end) u in
       record {
-        chunks = λ s. by-lanes test nd test-alike (OddIn kind.Linear l nodata) _ _ lane plain
+        chunks = λ s. by-lanes test nd test-alike (RoundingExceptionIn kind.Linear l nodata) _ _ lane plain
             (λ v e. ⊎-elim (λ q. inl q) (λ o. inr (e, o)) (linear-law.lane-law (m .start) (m .end) v h (m .cmap) u))
             (λ v o. let d = linear-law.odd-law (m .start) (m .end) v h (m .cmap) u f g (o .1) in (o .0, d .0, d .1))
             (by-zeros lane (λ s t. lane-zeros s t (m .cmap) (m .start) (m .end) u)) L;

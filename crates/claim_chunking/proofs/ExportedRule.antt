@@ -17,12 +17,12 @@ use Rattle.cast.specs.declared.Nodata.{Nodata}
 use Rattle.painting.specs.Contracts.{Painter, refusedFirst, plainAnswer, laneAnswer, PlainPainting, LanePainting}
 use Rattle.painting.proofs.Refusals.{plain-free, lane-free}
 use Rattle.c_types.specs.declared.answer.LegendAnswer.{LegendAnswer}
-use Rattle.c_types.specs.Answers.{withIndex, answerOf}
+use Rattle.c_types.specs.Answers.{withIndex, answerToC}
 use Rattle.legend.specs.Painters.{painter}
 use Rattle.c_types.specs.Refusals.{useRefusal}
-use Rattle.c_records.specs.Heads.{headGiven}
+use Rattle.c_records.specs.Views.{viewFromC}
 use Rattle.claim_chunking.specs.Rule.{Raster, samples, Lawful, ChunkingRule, PlainDone, LanesDone}
-use Rattle.claim_chunking.specs.Exported.{Handed, legendOf, painterOf, IsF32, BoundsAreF32, PlainCalled, LanesCalled}
+use Rattle.claim_chunking.specs.Exported.{Handed, handedLegend, handedPainter, IsF32, BoundsAreF32, PlainCalled, LanesCalled}
 use Rattle.claim_chunking.proofs.Demand3.{chunking-rule}
 
 -- ---- the number 0 says that nothing was refused
@@ -30,7 +30,7 @@ number-is : (n : ℕ) (i : Index) → withIndex n i .number ≡ n
 number-is n (At k) = refl
 number-is n Absent = refl
 
-answered : (a : Answer) {r : LegendAnswer} → r ≡ answerOf a → r .number ≡ 0 → a ≡ Done
+answered : (a : Answer) {r : LegendAnswer} → r ≡ answerToC a → r .number ≡ 0 → a ≡ Done
 answered a e z = zero-done a (sym (ap (λ (r : LegendAnswer). r .number) e ∙ number-is (answerNumber a) (answerIndex a)) ∙ z)
 
 -- ---- a painting that is not refused is one by the painter whose own arguments are not looked at
@@ -52,32 +52,32 @@ module _ (first : Answer) (p : Painter) where
 module _ (h : Handed) where
   -- what the call's own arguments are refused by
   abbrev asked : Answer
-  asked = useRefusal (h .head .settings) (h .head .kind) (h .nodataGiven)
+  asked = useRefusal (h .view .settings) (h .view .kind) (h .nodataGiven)
 
-  plain-done : (nodata : Nodata) (r : Raster) (output : List ℕ) → PlainCalled h nodata r output → PlainDone (legendOf h) nodata r output
+  plain-done : (nodata : Nodata) (r : Raster) (output : List ℕ) → PlainCalled h nodata r output → PlainDone (handedLegend h) nodata r output
   plain-done nodata r output c =
-      let p = painterOf h nodata in
+      let p = handedPainter h nodata in
       let d : plainAnswer p (samples r) (c .before) ≡ Done = answered _ (c .outcome .answer) (c .done) in
-      record { before = c .before; painting = plain-own asked (painter (legendOf h) nodata) (subst (λ a. PlainPainting p (samples r) (c .before) a output) d (c .outcome .painting)) }
+      record { before = c .before; painting = plain-own asked (painter (handedLegend h) nodata) (subst (λ a. PlainPainting p (samples r) (c .before) a output) d (c .outcome .painting)) }
 
-  lanes-done : (nodata : Nodata) (L : ℕ) (r : Raster) (output : List ℕ) → LanesCalled h nodata L r output → LanesDone (legendOf h) nodata L r output
+  lanes-done : (nodata : Nodata) (L : ℕ) (r : Raster) (output : List ℕ) → LanesCalled h nodata L r output → LanesDone (handedLegend h) nodata L r output
   lanes-done nodata L r output c =
-      let p = painterOf h nodata in
+      let p = handedPainter h nodata in
       let d : laneAnswer p L (samples r) (c .before) (c .scratch) ≡ Done = answered _ (c .outcome .answer) (c .done) in
       record {
         before = c .before;
         scratch = c .scratch;
         scratch-after = c .scratch-after;
-        painting = lane-own asked (painter (legendOf h) nodata) (subst (λ a. LanePainting p L (samples r) (c .before) (c .scratch) a output (c .scratch-after)) d (c .outcome .painting));
+        painting = lane-own asked (painter (handedLegend h) nodata) (subst (λ a. LanePainting p L (samples r) (c .before) (c .scratch) a output (c .scratch-after)) d (c .outcome .painting));
       }
 
 bound-fits : {x : Float} → IsF32 x → T (fits binary32 x)
 bound-fits (bits, e) = subst (λ x. T (fits binary32 x)) (sym e) (ofBits-fits binary32 bits)
 
-pub exported-rule : (h : Handed) → BoundsAreF32 h → Lawful (legendOf h) → ChunkingRule (legendOf h) (PlainCalled h) (LanesCalled h)
-unfolding headGiven
+pub exported-rule : (h : Handed) → BoundsAreF32 h → Lawful (handedLegend h) → ChunkingRule (handedLegend h) (PlainCalled h) (LanesCalled h)
+unfolding viewFromC
 exported-rule h bounds lawful =
-    let rule = chunking-rule (legendOf h) (bound-fits (bounds .0)) (bound-fits (bounds .1)) lawful in
+    let rule = chunking-rule (handedLegend h) (bound-fits (bounds .0)) (bound-fits (bounds .1)) lawful in
     record {
       same = λ nodata L r plain lanes P Q. rule .same nodata L r plain lanes (plain-done h nodata r plain P) (lanes-done h nodata L r lanes Q);
       differs = λ nodata L r plain lanes P Q. rule .differs nodata L r plain lanes (plain-done h nodata r plain P) (lanes-done h nodata L r lanes Q);

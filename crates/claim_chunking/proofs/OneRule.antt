@@ -18,7 +18,7 @@ use Rattle.painting.specs.Contracts.{plainRefusal, PlainPainting}
 use Rattle.legend.specs.declared.Legend.{Legend}
 use Rattle.legend.specs.Record.{linearLegend}
 use Rattle.legend.specs.Painters.{linearPainter, painter}
-use Rattle.claim_chunking.specs.Rule.{Raster, f32, samples, Odd, ChunkingRule, PlainDone}
+use Rattle.claim_chunking.specs.Rule.{Raster, f32, samples, RoundingException, ChunkingRule, PlainDone}
 
 -- entry k of the ramp is k
 abbrev steps : Legend
@@ -38,7 +38,7 @@ unrefused = refl
 plainly : PlainDone steps Absent chunk painted
 plainly = record { before = 0 ∷ 0 ∷ 0 ∷ 0 ∷ []; painting = record { answered = sym unrefused; output = refl } }
 
-odd : Odd steps Absent (ofBits binary32 0x3B00_8080)
+odd : RoundingException steps Absent (ofBits binary32 0x3B00_8080)
 unfolding unmappable fraction isNan eq lt le add sub neg div ofBits toBits
 odd = (refl, refl)
 

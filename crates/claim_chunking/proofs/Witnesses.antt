@@ -9,7 +9,7 @@ use Rattle.lists.specs.Padded.{padded}
 use Rattle.colormapper.specs.Settings.{noSettings}
 use Rattle.banded_columns.specs.declared.LegendBand.{LegendBand}
 use Rattle.banded_columns.specs.Band.{lastOf}
-use Rattle.banded_lanes.specs.Sound.{eachBand, eachAfter, eachNext, firstAndLast}
+use Rattle.banded_lanes.specs.Conditions.{eachBand, eachAfter, eachNext, firstAndLast}
 use Rattle.banded_lanes.proofs.Ordering.{ordered-disjoint}
 use Rattle.banded.specs.Record.{bandedOf}
 use Rattle.catgegoric.specs.Made.{emptyCategoric}

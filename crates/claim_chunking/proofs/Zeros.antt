@@ -28,8 +28,8 @@ use Rattle.interpolate.specs.Fraction.{fraction, plainFraction}
 use Rattle.lookup.specs.Entries.{plainEntry, laneEntry}
 use Rattle.linear_rule.specs.Rule as linear
 use Rattle.banded_columns.specs.declared.LegendBand.{LegendBand}
-use Rattle.banded_columns.specs.Band.{holds, lastOf}
-use Rattle.banded_rule.specs.Parts.{firstColor, edgeColor}
+use Rattle.banded_columns.specs.Band.{caseHolds, lastOf}
+use Rattle.banded_rule.specs.forms.Steps.{firstColor, edgeColor}
 use Rattle.banded_rule.specs.PlainRule as bands
 use Rattle.banded_rule.proofs.Forms.{plain-form, edge-chain}
 use Rattle.categoric_table.specs.Rule as words
@@ -151,7 +151,7 @@ module _ (s t : Bool) where
         (range-zeros start end rule.low rule.high (ap (λ (f : Float). linear.looked (plainEntry (cond (lt end start) nought f))) (fraction-zeros start end)))
 
   -- banded
-  holds-zeros : (b : LegendBand) → holds b x ≡ holds b y
+  holds-zeros : (b : LegendBand) → caseHolds b x ≡ caseHolds b y
   holds-zeros b = ap₂ (λ (p q : Bool). p && q) (le-right x y zeros (b .start)) (lt-left x y zeros (b .end))
 
   first-zeros : (bs : List LegendBand) {c d : ℕ} → c ≡ d → firstColor bs x c ≡ firstColor bs y d

@@ -10,23 +10,23 @@ use Rattle.colormapper.specs.declared.UnmappableColors.{UnmappableColors}
 use Rattle.banded_columns.specs.declared.LegendBand.{LegendBand}
 use Rattle.banded_rule.specs.PlainRule.{plainColor}
 use Rattle.banded_lanes.specs.LaneRule.{laneColors}
-use Rattle.banded_lanes.specs.Sound.{startsBelowEnd, clears, wideBand, eachBand, eachNext, firstAndLast}
+use Rattle.banded_lanes.specs.Conditions.{startsBelowEnd, clears, wideBand, eachBand, eachNext, firstAndLast}
 
 -- which conditions a list keeps: each band starts below its end; none starts below the end of the one before; the first and the last are wide
-pub record Kept : Type 0 where
+pub record Conditions : Type 0 where
   pub starts : Bool
   pub apart : Bool
   pub wide : Bool
 
-abbrev pub keptBy : List LegendBand → Kept
-keptBy bands = record { starts = eachBand startsBelowEnd bands; apart = eachNext clears bands; wide = firstAndLast wideBand bands }
+abbrev pub conditionsOf : List LegendBand → Conditions
+conditionsOf bands = record { starts = eachBand startsBelowEnd bands; apart = eachNext clears bands; wide = firstAndLast wideBand bands }
 
 abbrev pub sameBool : Bool → Bool → Bool
 sameBool true b = b
 sameBool false b = not b
 
-abbrev pub sameKept : Kept → Kept → Bool
-sameKept x y = (sameBool (x .starts) (y .starts) && sameBool (x .apart) (y .apart)) && sameBool (x .wide) (y .wide)
+abbrev pub sameConditions : Conditions → Conditions → Bool
+sameConditions x y = (sameBool (x .starts) (y .starts) && sameBool (x .apart) (y .apart)) && sameBool (x .wide) (y .wide)
 
 -- an f32 by its bits
 abbrev f32 : ℕ → Float
@@ -41,29 +41,29 @@ colors = record { nodata = 9; low = 8; high = 7 }
 -- a list, the conditions that it keeps, a chunk, and whether the chunk's first colour is the plain one
 pub record Case : Type 0 where
   pub bands : List LegendBand
-  pub kept : Kept
+  pub kept : Conditions
   pub chunk : List ℕ
   pub agrees : Bool
 
-unfoldable pub holds : Case → Bool
-holds c =
-    sameKept (keptBy (c .bands)) (c .kept)
+unfoldable pub caseHolds : Case → Bool
+caseHolds c =
+    sameConditions (conditionsOf (c .bands)) (c .kept)
     && sameBool (eqb (getD (laneColors (c .bands) colors (map f32 (c .chunk))) 0 0) (plainColor (c .bands) colors (f32 (getD (c .chunk) 0 0)))) (c .agrees)
 
-unfoldable pub allHold : List Case → Bool
-allHold [] = true
-allHold (c ∷ cs) = holds c && allHold cs
+unfoldable pub allCasesHold : List Case → Bool
+allCasesHold [] = true
+allCasesHold (c ∷ cs) = caseHolds c && allCasesHold cs
 
-abbrev all : Kept
+abbrev all : Conditions
 all = record { starts = true; apart = true; wide = true }
 
-abbrev but-starts : Kept
+abbrev but-starts : Conditions
 but-starts = record { starts = false; apart = true; wide = true }
 
-abbrev but-apart : Kept
+abbrev but-apart : Conditions
 but-apart = record { starts = true; apart = false; wide = true }
 
-abbrev but-wide : Kept
+abbrev but-wide : Conditions
 but-wide = record { starts = true; apart = true; wide = false }
 
 unfoldable pub cases : List Case

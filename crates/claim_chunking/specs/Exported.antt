@@ -9,13 +9,13 @@ use Rattle.painting.specs.Contracts.{Painter}
 use Rattle.banded.specs.declared.Banded.{Banded}
 use Rattle.legend.specs.declared.Legend.{Legend}
 use Rattle.c_types.specs.declared.answer.LegendAnswer.{LegendAnswer}
-use Rattle.c_records.specs.declared.head.LegendHead.{LegendHead}
-use Rattle.c_painters.specs.Painting.{legendLent, painterLent, PlainOutcome, LaneOutcome}
+use Rattle.c_records.specs.declared.view.LegendView.{LegendView}
+use Rattle.c_painters.specs.Painting.{legendOfView, painterOfView, PlainOutcome, LaneOutcome}
 use Rattle.claim_chunking.specs.Rule.{Raster, samples}
 
 -- what a painter is handed beside raster, nodata value and buffers: the legend, and the flag of the nodata value
 pub record Handed : Type 0 where
-  pub head : LegendHead
+  pub view : LegendView
   pub banded : Banded
   pub cmap : List ℕ
   pub keys : List ℤ
@@ -23,31 +23,31 @@ pub record Handed : Type 0 where
   pub lookup : List ℕ
   pub nodataGiven : ℕ
 
-abbrev pub legendOf : Handed → Legend
-legendOf h = legendLent (h .head) (h .banded) (h .cmap) (h .keys) (h .colors) (h .lookup)
+abbrev pub handedLegend : Handed → Legend
+handedLegend h = legendOfView (h .view) (h .banded) (h .cmap) (h .keys) (h .colors) (h .lookup)
 
-abbrev pub painterOf : Handed → Nodata → Painter
-painterOf h nodata = painterLent (h .head) (h .banded) (h .cmap) (h .keys) (h .colors) (h .lookup) (h .nodataGiven) nodata
+abbrev pub handedPainter : Handed → Nodata → Painter
+handedPainter h nodata = painterOfView (h .view) (h .banded) (h .cmap) (h .keys) (h .colors) (h .lookup) (h .nodataGiven) nodata
 
 -- a bound comes in as an f32, which is what some bits stand for
 abbrev pub IsF32 : Float → Type 0
 IsF32 x = (bits : ℕ) × (x ≡ ofBits binary32 bits)
 
 abbrev pub BoundsAreF32 : Handed → Type 0
-BoundsAreF32 h = IsF32 (h .head .start) × IsF32 (h .head .end)
+BoundsAreF32 h = IsF32 (h .view .start) × IsF32 (h .view .end)
 
--- what a call of legend_lent_paint_f32, _u8 or _i16 leaves that is answered 0, whatever output held before
+-- what a call of legend_view_paint_f32, _u8 or _i16 leaves that is answered 0, whatever output held before
 pub record PlainCalled (h : Handed) (nodata : Nodata) (r : Raster) (output : List ℕ) : Type 0 where
   pub before : List ℕ
   pub result : LegendAnswer
-  pub outcome : PlainOutcome (painterOf h nodata) (samples r) before result output
+  pub outcome : PlainOutcome (handedPainter h nodata) (samples r) before result output
   pub done : result .number ≡ 0
 
--- and of legend_lent_paint_lanes_f32, _u8 or _i16, whatever output and scratch held before
+-- and of legend_view_paint_lanes_f32, _u8 or _i16, whatever output and scratch held before
 pub record LanesCalled (h : Handed) (nodata : Nodata) (L : ℕ) (r : Raster) (output : List ℕ) : Type 0 where
   pub before : List ℕ
   pub scratch : List ℕ
   pub scratch-after : List ℕ
   pub result : LegendAnswer
-  pub outcome : LaneOutcome (painterOf h nodata) L (samples r) before scratch result output scratch-after
+  pub outcome : LaneOutcome (handedPainter h nodata) L (samples r) before scratch result output scratch-after
   pub done : result .number ≡ 0

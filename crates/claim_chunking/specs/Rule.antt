@@ -16,8 +16,8 @@ use Rattle.cast.specs.declared.Nodata.{Nodata}
 use Rattle.colormapper.specs.Unmappable.{unmappable}
 use Rattle.painting.specs.Contracts.{PlainPainting, LanePainting}
 use Rattle.painting.specs.Chunking.{full}
-use Rattle.linear_rule.specs.Odd.{OddFraction}
-use Rattle.banded_lanes.specs.Sound.{wideBand, firstAndLast, Sound, Ordered}
+use Rattle.linear_rule.specs.Exception.{ExceptionFraction}
+use Rattle.banded_lanes.specs.Conditions.{wideBand, firstAndLast, LawfulBands, Ordered}
 use Rattle.banded.specs.Record.{counted}
 use Rattle.legend.specs.declared.Legend.{Legend}
 use Rattle.legend.specs.declared.LegendKind.{LegendKind}
@@ -45,7 +45,7 @@ SameSample x y = Same x y ⊎ ((x ≡ nan) × (y ≡ nan))
 -- the legends of the rule: linear with a start that is not above its end; banded with sound bands, or none; every categoric one
 abbrev pub LawfulIn : LegendKind → Legend → Type 0
 LawfulIn kind.Linear l = lt (l .linear .end) (l .linear .start) ≡ false
-LawfulIn kind.Banded l = Sound (counted (l .banded))
+LawfulIn kind.Banded l = LawfulBands (counted (l .banded))
 LawfulIn kind.CategoricNumeric l = Unit
 
 abbrev pub Lawful : Legend → Type 0
@@ -61,23 +61,23 @@ abbrev pub Asked : Legend → Type 0
 Asked l = AskedIn (l .kind) l
 
 -- the exception: a mappable sample of a linear legend whose fraction is the f32 with the bits 3B008080
-abbrev pub OddIn : LegendKind → Legend → Nodata → (sample : Float) → Type 0
-OddIn kind.Linear l nodata v = (unmappable nodata (l .«mapping_config» .«zero_is_nodata») v ≡ false) × OddFraction (l .linear .start) (l .linear .end) v
-OddIn kind.Banded l nodata v = ⊥
-OddIn kind.CategoricNumeric l nodata v = ⊥
+abbrev pub RoundingExceptionIn : LegendKind → Legend → Nodata → (sample : Float) → Type 0
+RoundingExceptionIn kind.Linear l nodata v = (unmappable nodata (l .«mapping_config» .«zero_is_nodata») v ≡ false) × ExceptionFraction (l .linear .start) (l .linear .end) v
+RoundingExceptionIn kind.Banded l nodata v = ⊥
+RoundingExceptionIn kind.CategoricNumeric l nodata v = ⊥
 
-abbrev pub Odd : Legend → Nodata → (sample : Float) → Type 0
-Odd l = OddIn (l .kind) l
+abbrev pub RoundingException : Legend → Nodata → (sample : Float) → Type 0
+RoundingException l = RoundingExceptionIn (l .kind) l
 
 -- The rule for a legend, over the outputs that its plain paintings leave (`Plain nodata raster output`) and those that its lane paintings leave
 -- (`Lanes nodata L raster output`)
 pub record ChunkingRule (l : Legend) (Plain : Nodata → Raster → List ℕ → Type 0) (Lanes : Nodata → ℕ → Raster → List ℕ → Type 0) : Type 0 where
   -- a pixel of a lane painting is that of the plain painting of the same raster, unless it lies in a full chunk and is the exception
   pub same : (nodata : Nodata) (L : ℕ) (r : Raster) (plain lanes : List ℕ) → Plain nodata r plain → Lanes nodata L r lanes → (i : ℕ) → i < length (samples r)
-      → (getD lanes i 0 ≡ getD plain i 0) ⊎ ((i < full L (length (samples r))) × Odd l nodata (sampleAt r i))
+      → (getD lanes i 0 ≡ getD plain i 0) ⊎ ((i < full L (length (samples r))) × RoundingException l nodata (sampleAt r i))
   -- there it has the ramp's entry 1 from lane painting, and entry 0 from plain painting
   pub differs : (nodata : Nodata) (L : ℕ) (r : Raster) (plain lanes : List ℕ) → Plain nodata r plain → Lanes nodata L r lanes
-      → (i : ℕ) → i < full L (length (samples r)) → Odd l nodata (sampleAt r i) → (getD lanes i 0 ≡ getD (l .linear .cmap) 1 0) × (getD plain i 0 ≡ getD (l .linear .cmap) 0 0)
+      → (i : ℕ) → i < full L (length (samples r)) → RoundingException l nodata (sampleAt r i) → (getD lanes i 0 ≡ getD (l .linear .cmap) 1 0) × (getD plain i 0 ≡ getD (l .linear .cmap) 0 0)
   -- two rasters of one length with the same sample at a pixel have the same colour there from lane painting
   pub alone : (nodata : Nodata) (L : ℕ) (r s : Raster) (out out' : List ℕ) → Lanes nodata L r out → Lanes nodata L s out'
       → length (samples r) ≡ length (samples s) → (i : ℕ) → i < length (samples r) → SameSample (sampleAt r i) (sampleAt s i) → getD out i 0 ≡ getD out' i 0

@@ -12,12 +12,12 @@ use Rattle.banded.specs.EqualBands.{withEqualBands}
 use Rattle.banded.specs.ManualRanges.{withManualRanges}
 use Rattle.categoric_lists.specs.Range.{tooWide, rangeKeys}
 use Rattle.categoric_lists.specs.Keys.{outsideFrom}
-use Rattle.catgegoric.specs.Made.{madeUnless, manyRefusal, valuesRefusal, wideRefusal, rangeRefusal, categoricRefusal}
+use Rattle.catgegoric.specs.Made.{madeUnless, manyRefusal, valuesRefusal, wideRefusal, valueRangeRefusal, categoricRefusal}
 use Rattle.painting.specs.Contracts.{plainRefusal, laneRefusal}
 use Rattle.legend.specs.Record.{storedRefusal}
 use Rattle.legend_range.specs.ValueRanges as ranges
 use Rattle.claim_examples.specs.FirstRefusals.{allGiven, rows}
 
 pub all-given : T (allGiven rows)
-unfolding allGiven rows tabulate hexColor hexForm hexDigit twoDigits hexPair pairAt alphaOf ofPairs listRefusal linear.rangeRefusal linear.linearUnless bandedOf beside bandedRefusal equalRefusal withEqualBands firstEmpty manualRefusal withManualRanges tooWide rangeKeys outsideFrom madeUnless manyRefusal valuesRefusal wideRefusal rangeRefusal categoricRefusal plainRefusal laneRefusal storedRefusal ranges.rangeRefusal lt le eq ofBits
+unfolding allGiven rows tabulate hexColor hexForm hexDigit twoDigits hexPair pairAt alphaOf ofPairs listRefusal linear.rangeRefusal linear.linearUnless bandedOf beside bandedRefusal equalRefusal withEqualBands firstEmpty manualRefusal withManualRanges tooWide rangeKeys outsideFrom madeUnless manyRefusal valuesRefusal wideRefusal valueRangeRefusal categoricRefusal plainRefusal laneRefusal storedRefusal ranges.totalRangeRefusal lt le eq ofBits
 all-given = tt

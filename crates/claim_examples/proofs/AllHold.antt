@@ -20,12 +20,12 @@ use Rattle.banded.specs.Record.{bandedOf, beside}
 use Rattle.banded.specs.EqualBands.{withEqualBands}
 use Rattle.categoric_table.specs.Rule as words
 use Rattle.categoric_keys.specs.Rule as rule
-use Rattle.categoric_build.specs.Categories.{inserted, firstOf}
-use Rattle.categoric_build.specs.Table.{foremost, tabled, tableSize, written, table}
+use Rattle.categoric_build.specs.Categories.{inserted, insertedUpTo}
+use Rattle.categoric_build.specs.Table.{foremost, hasTable, tableSize, written, table}
 use Rattle.categoric_lists.specs.Keys.{outsideFrom}
 use Rattle.catgegoric.specs.Made.{recordOf, madeUnless, manyRefusal, valuesRefusal}
-use Rattle.claim_examples.specs.Examples.{gray, G, categoryOf, asked, examples, allHold}
+use Rattle.claim_examples.specs.Examples.{gray, G, categoryOf, exampleWord, examples, allHold}
 
 pub all-hold : T (allHold examples)
-unfolding allHold examples asked gray G categoryOf tabulate padded hexColor hexForm hexDigit twoDigits hexPair pairAt alphaOf ofPairs truncated plainIndex laneIndex fraction plainFraction plainEntry laneEntry step position rampColors unmappable linear.plainRule linear.laneRule linear.plainColor linear.laneColor lastOf firstBand edges plainRule edged scanned laneColors bandedOf beside bandStep bandStart equalBands equalRefusal withEqualBands words.tableRule rule.firstKey rule.keyRule rule.plainRule rule.plainColor words.tableColor rule.keyColor inserted firstOf foremost tabled tableSize written table outsideFrom recordOf madeUnless manyRefusal valuesRefusal add sub mul div lt le eq isNan ofInt ofBits
+unfolding allHold examples exampleWord gray G categoryOf tabulate padded hexColor hexForm hexDigit twoDigits hexPair pairAt alphaOf ofPairs truncated plainIndex laneIndex fraction plainFraction plainEntry laneEntry step position rampColors unmappable linear.plainRule linear.laneRule linear.plainColor linear.laneColor lastOf firstBand edges plainRule edged scanned laneColors bandedOf beside bandStep bandStart equalBands equalRefusal withEqualBands words.tableRule rule.firstKey rule.keyRule rule.plainRule rule.plainColor words.tableColor rule.keyColor inserted insertedUpTo foremost hasTable tableSize written table outsideFrom recordOf madeUnless manyRefusal valuesRefusal add sub mul div lt le eq isNan ofInt ofBits
 all-hold = tt

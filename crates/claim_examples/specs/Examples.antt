@@ -22,7 +22,7 @@ use Rattle.linear_rule.specs.Rule as linear
 use Rattle.banded_columns.specs.declared.LegendBand.{LegendBand}
 use Rattle.banded_rule.specs.PlainRule as bands
 use Rattle.banded_lanes.specs.LaneRule.{laneColors}
-use Rattle.banded_lists.specs.Places.{blankBand}
+use Rattle.banded_lists.specs.Padded.{blankBand}
 use Rattle.banded.specs.EqualBands.{withEqualBands}
 use Rattle.categoric_keys.specs.Rule as categories
 use Rattle.catgegoric.specs.declared.CategoricNumeric.{CategoricNumeric}
@@ -80,25 +80,25 @@ pub data Question : Type 0 where
   zeroIsNodata : (value : ℕ) → Question
 
 -- the word of a hex colour; a refusal's number is no word of an opaque colour
-abbrev pub hexWord : HexColor → ℕ
-hexWord (Made color) = wordOf color
-hexWord (Refused why) = numberOf why
+abbrev pub hexWordOrNumber : HexColor → ℕ
+hexWordOrNumber (Made color) = wordOf color
+hexWordOrNumber (Refused why) = numberOf why
 
 unfoldable pub categoryOf : CategoricNumeric → Float → ℕ
 categoryOf m v = categories.plainColor (m .keys) (m .colors) (m .count) (m .lookup) (m .«lookup_count») nodata v
 
-unfoldable pub asked : Question → ℕ
-asked (plainRamp fraction) = entryColor G (plainEntry (f32 fraction))
-asked (laneRamp fraction) = entryColor G (laneEntry (f32 fraction))
-asked (linearOver start end value) = linear.plainColor G (f32 start) (f32 end) settings (f32 value)
-asked (bandsAt bs value) = bands.plainColor bs settings (f32 value)
-asked (chunkAt bs values k) = getD (laneColors bs settings (map f32 values)) k 0
-asked (equalFromRamp count k) = getD (withEqualBands count (f32 0x0000_0000) (f32 0x3F80_0000) (rampColors count G) .banded .bands) k blankBand .color
-asked (categoryAt keys colors value) = categoryOf (forValues keys colors .categoric) (f32 value)
-asked (categoryCount keys colors) = forValues keys colors .categoric .count
-asked (tableWords keys colors) = forValues keys colors .categoric .«lookup_count»
-asked (hexText text) = hexWord (hexColor text)
-asked (zeroIsNodata value) = maskedColor (unmappable Absent true) nodata (linear.plainColor G (f32 0x0000_0000) (f32 0x437F_0000) settings) (f32 value)
+unfoldable pub exampleWord : Question → ℕ
+exampleWord (plainRamp fraction) = entryColor G (plainEntry (f32 fraction))
+exampleWord (laneRamp fraction) = entryColor G (laneEntry (f32 fraction))
+exampleWord (linearOver start end value) = linear.plainColor G (f32 start) (f32 end) settings (f32 value)
+exampleWord (bandsAt bs value) = bands.plainColor bs settings (f32 value)
+exampleWord (chunkAt bs values k) = getD (laneColors bs settings (map f32 values)) k 0
+exampleWord (equalFromRamp count k) = getD (withEqualBands count (f32 0x0000_0000) (f32 0x3F80_0000) (rampColors count G) .banded .bands) k blankBand .color
+exampleWord (categoryAt keys colors value) = categoryOf (forValues keys colors .categoric) (f32 value)
+exampleWord (categoryCount keys colors) = forValues keys colors .categoric .count
+exampleWord (tableWords keys colors) = forValues keys colors .categoric .«lookup_count»
+exampleWord (hexText text) = hexWordOrNumber (hexColor text)
+exampleWord (zeroIsNodata value) = maskedColor (unmappable Absent true) nodata (linear.plainColor G (f32 0x0000_0000) (f32 0x437F_0000) settings) (f32 value)
 
 pub record Example : Type 0 where
   pub line : ℕ
@@ -169,4 +169,4 @@ examples =
 -- each row holds
 unfoldable pub allHold : List Example → Bool
 allHold [] = true
-allHold (e ∷ es) = eqb (asked (e .question)) (e .answer) && allHold es
+allHold (e ∷ es) = eqb (exampleWord (e .question)) (e .answer) && allHold es

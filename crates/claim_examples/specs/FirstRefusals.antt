@@ -22,7 +22,7 @@ use Rattle.banded.specs.ManualRanges.{withManualRanges}
 use Rattle.catgegoric.specs.Made.{forValues, forValueRange}
 use Rattle.painting.specs.Contracts.{plainRefusal, laneRefusal}
 use Rattle.legend.specs.Record.{categoricLegend}
-use Rattle.legend_range.specs.ValueRanges.{rangeRefusal}
+use Rattle.legend_range.specs.ValueRanges.{totalRangeRefusal}
 
 abbrev of-hex : HexColor → Answer
 of-hex (Made color) = Done
@@ -80,7 +80,7 @@ rows =
     ∷ row 11 (forValueRange (pos 16777000) (pos 16777256) (replicate 257 1) .answer)
     ∷ row 9 (forValueRange above above [] .answer)
     -- the range and the list of colours: 16 and 17
-    ∷ row 16 (rangeRefusal (categoricLegend (record { keys = replicate 256 above; colors = replicate 256 1; count = 257; lookup = replicate 513 0; «lookup_count» = 0 }) noSettings))
+    ∷ row 16 (totalRangeRefusal (categoricLegend (record { keys = replicate 256 above; colors = replicate 256 1; count = 257; lookup = replicate 513 0; «lookup_count» = 0 }) noSettings))
     -- plain painting: 16 and 13
     ∷ row 16 (plainRefusal (bandedRefusal 65) 4 3)
     -- lane painting: 16 and 14, 15, 13 at once; 14 and 15; 14 and 13; 15 and 13

@@ -11,19 +11,19 @@ use lib.Dec.{T, eqb, eqb→eq, lit≤}
 use lib.Ieee.{Float, nan, inf, fin, binary32, up, down, add, mul, le, lt, isNan, ofInt, toUnsigned, ofBits}
 use lib.Ieee.Fits.{and-i, and-l, and-r}
 use lib.Ieee.Scale.{finite}
-use Rattle.floats.specs.RampIndex.{floorOf, halfUp, c255, half, plainIndex, laneIndex, one, nought, inUnit}
+use Rattle.floats.specs.RampIndex.{floorOf, halfUp, c255, oneHalf, plainIndex, laneIndex, one, nought, inUnit}
 use Rattle.floats.proofs.Order.{le-le, le-lt, lt-le, le-refl-float, between}
 use Rattle.lists.proofs.Numbers.{lt-or-le}
 use Rattle.floats.proofs.Mono.{add-mono, mul-mono-by}
 use Rattle.floats.proofs.Floors.{floor-mono, half-mono, up-from, down-from}
 
 -- ---- the constants, as a program's literals stand for them
-pub literals : (ofBits binary32 0 ≡ nought) × (ofBits binary32 0x3F80_0000 ≡ one) × (ofBits binary32 0x3F00_0000 ≡ half) × (ofBits binary32 0x437F_0000 ≡ c255)
+pub literals : (ofBits binary32 0 ≡ nought) × (ofBits binary32 0x3F80_0000 ≡ one) × (ofBits binary32 0x3F00_0000 ≡ oneHalf) × (ofBits binary32 0x437F_0000 ≡ c255)
 unfolding ofBits
 literals = (refl, refl, refl, refl)
 
 -- ---- closed facts
-half-real : T (not (isNan half))
+half-real : T (not (isNan oneHalf))
 unfolding isNan
 half-real = tt
 
@@ -35,7 +35,7 @@ at-one : mul binary32 one c255 ≡ c255
 unfolding mul
 at-one = refl
 
-half-of-nought : add binary32 nought half ≡ half
+half-of-nought : add binary32 nought oneHalf ≡ oneHalf
 unfolding add
 half-of-nought = refl
 
@@ -43,7 +43,7 @@ half-of-nought = refl
 abbrev top : Float
 top = fin false 511 (negsuc 0)
 
-half-of-255 : add binary32 c255 half ≡ top
+half-of-255 : add binary32 c255 oneHalf ≡ top
 unfolding add
 half-of-255 = refl
 
@@ -57,7 +57,7 @@ below-nought : T (lt minus-one nought)
 unfolding lt
 below-nought = tt
 
-nought-to-half : T (le nought half)
+nought-to-half : T (le nought oneHalf)
 unfolding le
 nought-to-half = tt
 
@@ -99,31 +99,31 @@ module _ (x : Float) (u : T (inUnit x)) where
   times-floor = floor-mono y c255 times-finite tt times-high
 
   abbrev z : Float
-  z = add binary32 y half
+  z = add binary32 y oneHalf
 
-  pub plus-low : T (le half (add binary32 (mul binary32 x c255) half))
-  plus-low = subst (λ (w : Float). T (le w z)) half-of-nought (add-mono binary32 nought y half half tt times-finite tt tt times-low (le-refl-float half half-real))
+  pub plus-low : T (le oneHalf (add binary32 (mul binary32 x c255) oneHalf))
+  plus-low = subst (λ (w : Float). T (le w z)) half-of-nought (add-mono binary32 nought y oneHalf oneHalf tt times-finite tt tt times-low (le-refl-float oneHalf half-real))
 
-  pub plus-high : T (le (add binary32 (mul binary32 x c255) half) top)
-  plus-high = subst (λ (w : Float). T (le z w)) half-of-255 (add-mono binary32 y c255 half half times-finite tt tt tt times-high (le-refl-float half half-real))
+  pub plus-high : T (le (add binary32 (mul binary32 x c255) oneHalf) top)
+  plus-high = subst (λ (w : Float). T (le z w)) half-of-255 (add-mono binary32 y c255 oneHalf oneHalf times-finite tt tt tt times-high (le-refl-float oneHalf half-real))
 
-  pub plus-from-0 : T (le nought (add binary32 (mul binary32 x c255) half))
-  plus-from-0 = le-le nought half z nought-to-half plus-low
+  pub plus-from-0 : T (le nought (add binary32 (mul binary32 x c255) oneHalf))
+  plus-from-0 = le-le nought oneHalf z nought-to-half plus-low
 
-  pub plus-below-256 : T (lt (add binary32 (mul binary32 x c255) half) (fin false 1 (pos 8)))
+  pub plus-below-256 : T (lt (add binary32 (mul binary32 x c255) oneHalf) (fin false 1 (pos 8)))
   plus-below-256 = le-lt z top (fin false 1 (pos 8)) plus-high below-256
 
-  pub plus-finite : T (finite (add binary32 (mul binary32 x c255) half))
-  plus-finite = between half z top tt tt plus-low plus-high
+  pub plus-finite : T (finite (add binary32 (mul binary32 x c255) oneHalf))
+  plus-finite = between oneHalf z top tt tt plus-low plus-high
 
-  pub plus-floor : floorOf (add binary32 (mul binary32 x c255) half) ≤ 255
+  pub plus-floor : floorOf (add binary32 (mul binary32 x c255) oneHalf) ≤ 255
   plus-floor = floor-mono z top plus-finite tt plus-high
 
   -- what the cast to u64 asks: above -1, below 2 ^ 64
   pub times-casts : T (lt (fin true 1 (pos 0)) (mul binary32 x c255)) × T (lt (mul binary32 x c255) (fin false 1 (pos 64)))
   times-casts = (lt-le minus-one nought y below-nought times-low, le-lt y c255 two-to-64 times-high (far-below .0))
 
-  pub plus-casts : T (lt (fin true 1 (pos 0)) (add binary32 (mul binary32 x c255) half)) × T (lt (add binary32 (mul binary32 x c255) half) (fin false 1 (pos 64)))
+  pub plus-casts : T (lt (fin true 1 (pos 0)) (add binary32 (mul binary32 x c255) oneHalf)) × T (lt (add binary32 (mul binary32 x c255) oneHalf) (fin false 1 (pos 64)))
   plus-casts = (lt-le minus-one nought z below-nought plus-from-0, le-lt z top two-to-64 plus-high (far-below .1))
 
 -- ---- the indexes
@@ -135,7 +135,7 @@ pub plain-le : (x : Float) → T (inUnit x) → plainIndex x ≤ 255
 unfolding plainIndex
 plain-le x u = half-mono (mul binary32 x c255) c255 (times-finite x u) tt (times-high x u)
 
-pub lane-is : (x : Float) → T (inUnit x) → laneIndex x ≡ floorOf (add binary32 (mul binary32 x c255) half)
+pub lane-is : (x : Float) → T (inUnit x) → laneIndex x ≡ floorOf (add binary32 (mul binary32 x c255) oneHalf)
 unfolding laneIndex
 lane-is x u = omega (arith, plus-floor x u)
 
@@ -155,8 +155,8 @@ cast-is (fin false m e) p h = capped (m * up e / down e) h
 pub times-cast : (x : Float) → T (inUnit x) → toUnsigned 64 (mul binary32 x c255) ≡ floorOf (mul binary32 x c255)
 times-cast x u = cast-is (mul binary32 x c255) (times-finite x u) (times-floor x u)
 
-pub lane-cast : (x : Float) → T (inUnit x) → toUnsigned 64 (add binary32 (mul binary32 x c255) half) ≡ laneIndex x
-lane-cast x u = cast-is (add binary32 (mul binary32 x c255) half) (plus-finite x u) (plus-floor x u) ∙ sym (lane-is x u)
+pub lane-cast : (x : Float) → T (inUnit x) → toUnsigned 64 (add binary32 (mul binary32 x c255) oneHalf) ≡ laneIndex x
+lane-cast x u = cast-is (add binary32 (mul binary32 x c255) oneHalf) (plus-finite x u) (plus-floor x u) ∙ sym (lane-is x u)
 
 -- ---- t + 1/2 is a float, for each t up to 255: by computation
 abbrev is-half : ℕ → Float → Bool
@@ -178,15 +178,15 @@ up-at p (suc n) t i h = elim (lt-or-le i n) [ inl l ↦ up-at p n (and-r (p n) (
     top-one : (n i : ℕ) → n ≤ i → i < suc n → n ≡ i
     top-one n i a b = omega arith
 
-halves : T (upTo (λ t. is-half t (add binary32 (ofInt binary32 (pos t)) half)) 256)
+halves : T (upTo (λ t. is-half t (add binary32 (ofInt binary32 (pos t)) oneHalf)) 256)
 unfolding add ofInt
 halves = tt
 
 half-is : (t : ℕ) (x : Float) → T (is-half t x) → x ≡ fin false (2 * t + 1) (negsuc 0)
 half-is t (fin false m (negsuc zero)) h = ap (λ (n : ℕ). fin false n (negsuc 0)) (eqb→eq m (2 * t + 1) h)
 
-pub and-half : (t : ℕ) → t ≤ 255 → add binary32 (ofInt binary32 (pos t)) half ≡ fin false (2 * t + 1) (negsuc 0)
-and-half t h = half-is t (add binary32 (ofInt binary32 (pos t)) half) (up-at (λ t. is-half t (add binary32 (ofInt binary32 (pos t)) half)) 256 halves t (lt-of-le-of-lt h (lit≤ tt)))
+pub and-half : (t : ℕ) → t ≤ 255 → add binary32 (ofInt binary32 (pos t)) oneHalf ≡ fin false (2 * t + 1) (negsuc 0)
+and-half t h = half-is t (add binary32 (ofInt binary32 (pos t)) oneHalf) (up-at (λ t. is-half t (add binary32 (ofInt binary32 (pos t)) oneHalf)) 256 halves t (lt-of-le-of-lt h (lit≤ tt)))
 
 -- ---- a program's test, at t = floor
 module _ (x : Float) (u : T (inUnit x)) (t : ℕ) (e : t ≡ floorOf (mul binary32 x c255)) where
@@ -194,11 +194,11 @@ module _ (x : Float) (u : T (inUnit x)) (t : ℕ) (e : t ≡ floorOf (mul binary
   v = mul binary32 x c255
 
   -- what is compared with x * 255
-  tested : add binary32 (ofInt binary32 (pos t)) half ≡ fin false (2 * floorOf (mul binary32 x c255) + 1) (negsuc 0)
-  tested = ap (λ (n : ℕ). add binary32 (ofInt binary32 (pos n)) half) e ∙ and-half (floorOf v) (times-floor x u)
+  tested : add binary32 (ofInt binary32 (pos t)) oneHalf ≡ fin false (2 * floorOf (mul binary32 x c255) + 1) (negsuc 0)
+  tested = ap (λ (n : ℕ). add binary32 (ofInt binary32 (pos n)) oneHalf) e ∙ and-half (floorOf v) (times-floor x u)
 
-  pub test-up : le (add binary32 (ofInt binary32 (pos t)) half) (mul binary32 x c255) ≡ true → suc t ≡ plainIndex x
+  pub test-up : le (add binary32 (ofInt binary32 (pos t)) oneHalf) (mul binary32 x c255) ≡ true → suc t ≡ plainIndex x
   test-up g = ap suc e ∙ sym (plain-is x ∙ up-from v (times-finite x u) (subst (λ (w : Float). T (le w v)) tested (subst T (sym g) tt)))
 
-  pub test-down : le (add binary32 (ofInt binary32 (pos t)) half) (mul binary32 x c255) ≡ false → t ≡ plainIndex x
+  pub test-down : le (add binary32 (ofInt binary32 (pos t)) oneHalf) (mul binary32 x c255) ≡ false → t ≡ plainIndex x
   test-down g = e ∙ sym (plain-is x ∙ down-from v (times-finite x u) (subst (λ (w : Float). T (not (le w v))) tested (subst (λ (b : Bool). T (not b)) (sym g) tt)))

@@ -17,16 +17,16 @@ use Rattle.floats.proofs.Floors.{floor-mono, half-mono}
 use Rattle.floats.proofs.Neighbours.{gap, sep}
 use Rattle.floats.proofs.Same.{eq→same}
 use lib.Ieee.Bits.{ofBits-toBits}
-use Rattle.floats.specs.RampIndex.{c255, half, plainIndex, laneIndex, one, nought, odd-one, inUnit}
+use Rattle.floats.specs.RampIndex.{c255, oneHalf, plainIndex, laneIndex, one, nought, exceptionFraction, inUnit}
 
 -- ---- the indexes are p and l from lo to hi, if they are at lo and at hi
 abbrev at : ℕ → ℕ → Float → Bool
-at p l x = finite x && (finite (mul binary32 x c255) && (finite (add binary32 (mul binary32 x c255) half) && (eqb (plainIndex x) p && eqb (laneIndex x) l)))
+at p l x = finite x && (finite (mul binary32 x c255) && (finite (add binary32 (mul binary32 x c255) oneHalf) && (eqb (plainIndex x) p && eqb (laneIndex x) l)))
 
 record At (p l : ℕ) (x : Float) : Type 0 where
   own : T (finite x)
   times : T (finite (mul binary32 x c255))
-  plus : T (finite (add binary32 (mul binary32 x c255) half))
+  plus : T (finite (add binary32 (mul binary32 x c255) oneHalf))
   plain : plainIndex x ≡ p
   lane : laneIndex x ≡ l
 
@@ -34,7 +34,7 @@ at→ : (p l : ℕ) (x : Float) → T (at p l x) → At p l x
 at→ p l x t =
     let A = finite x in
     let B = finite (mul binary32 x c255) in
-    let C = finite (add binary32 (mul binary32 x c255) half) in
+    let C = finite (add binary32 (mul binary32 x c255) oneHalf) in
     let D = eqb (plainIndex x) p in
     let E = eqb (laneIndex x) l in
     let t₁ = and-r A (B && (C && (D && E))) t in
@@ -52,9 +52,9 @@ plain-mono : (x y : Float) → T (finite (mul binary32 x c255)) → T (finite (m
 unfolding plainIndex
 plain-mono x y p q h = half-mono (mul binary32 x c255) (mul binary32 y c255) p q h
 
-lane-mono : (x y : Float) → T (finite (add binary32 (mul binary32 x c255) half)) → T (finite (add binary32 (mul binary32 y c255) half)) → T (le (add binary32 (mul binary32 x c255) half) (add binary32 (mul binary32 y c255) half)) → laneIndex x ≤ laneIndex y
+lane-mono : (x y : Float) → T (finite (add binary32 (mul binary32 x c255) oneHalf)) → T (finite (add binary32 (mul binary32 y c255) oneHalf)) → T (le (add binary32 (mul binary32 x c255) oneHalf) (add binary32 (mul binary32 y c255) oneHalf)) → laneIndex x ≤ laneIndex y
 unfolding laneIndex
-lane-mono x y p q h = let k = floor-mono (add binary32 (mul binary32 x c255) half) (add binary32 (mul binary32 y c255) half) p q h in omega arith
+lane-mono x y p q h = let k = floor-mono (add binary32 (mul binary32 x c255) oneHalf) (add binary32 (mul binary32 y c255) oneHalf) p q h in omega arith
 
 stretch : (p l : ℕ) (lo x hi : Float) → T (at p l lo) → T (at p l hi) → T (le lo x) → T (le x hi) → (plainIndex x ≡ p) × (laneIndex x ≡ l)
 stretch p l lo x hi a b h k =
@@ -67,14 +67,14 @@ stretch p l lo x hi a b h k =
     let h₁ : T (le yl y) = mul-mono-by binary32 lo x 255 (pos 0) (A .own) X h in
     let k₁ : T (le y yh) = mul-mono-by binary32 x hi 255 (pos 0) X (B .own) k in
     let Y = between yl y yh (A .times) (B .times) h₁ k₁ in
-    let h₂ : T (le (add binary32 yl half) (add binary32 y half)) = add-mono binary32 yl y half half (A .times) Y tt tt h₁ (le-refl-float half half-real) in
-    let k₂ : T (le (add binary32 y half) (add binary32 yh half)) = add-mono binary32 y yh half half Y (B .times) tt tt k₁ (le-refl-float half half-real) in
-    let Z = between (add binary32 yl half) (add binary32 y half) (add binary32 yh half) (A .plus) (B .plus) h₂ k₂ in (
+    let h₂ : T (le (add binary32 yl oneHalf) (add binary32 y oneHalf)) = add-mono binary32 yl y oneHalf oneHalf (A .times) Y tt tt h₁ (le-refl-float oneHalf half-real) in
+    let k₂ : T (le (add binary32 y oneHalf) (add binary32 yh oneHalf)) = add-mono binary32 y yh oneHalf oneHalf Y (B .times) tt tt k₁ (le-refl-float oneHalf half-real) in
+    let Z = between (add binary32 yl oneHalf) (add binary32 y oneHalf) (add binary32 yh oneHalf) (A .plus) (B .plus) h₂ k₂ in (
       le-antisymm (le-trans (plain-mono x hi Y (B .times) k₁) (le-of-eq (B .plain))) (le-trans (le-of-eq (sym (A .plain))) (plain-mono lo x (A .times) Y h₁)),
       le-antisymm (le-trans (lane-mono x hi Z (B .plus) k₂) (le-of-eq (B .lane))) (le-trans (le-of-eq (sym (A .lane))) (lane-mono lo x (A .plus) Z h₂)),
     )
   where
-    half-real : T (not (isNan half))
+    half-real : T (not (isNan oneHalf))
     half-real = unfold isNan in tt
 
 -- ---- the sweep: the last pattern with the index i, and stretches from index i on
@@ -105,7 +105,7 @@ passes : T (sweep 254 1 0x3B00_8081)
 unfolding plainIndex laneIndex ofBits toBits round mul add
 passes = tt
 
-odd-one-is : ofBits binary32 0x3B00_8080 ≡ odd-one
+odd-one-is : ofBits binary32 0x3B00_8080 ≡ exceptionFraction
 unfolding ofBits
 odd-one-is = refl
 
@@ -113,14 +113,14 @@ first-stretch : T (at 0 0 nought) × T (at 0 0 (ofBits binary32 0x3B00_807F)) ×
 unfolding plainIndex laneIndex ofBits mul add
 first-stretch = (tt, tt, tt, tt)
 
-pub at-odd-one : (plainIndex odd-one ≡ 0) × (laneIndex odd-one ≡ 1)
+pub at-odd-one : (plainIndex exceptionFraction ≡ 0) × (laneIndex exceptionFraction ≡ 1)
 unfolding plainIndex laneIndex mul add
 at-odd-one = (refl, refl)
 
-between-odd : (x : Float) → T (fits binary32 x) → T (finite x) → T (le odd-one x) → T (le x odd-one) → x ≡ odd-one
-between-odd x f v h k = eq→same binary32 x false 65792 (negsuc 24) f (unfold fits in tt) (antisymm x odd-one k h)
+between-odd : (x : Float) → T (fits binary32 x) → T (finite x) → T (le exceptionFraction x) → T (le x exceptionFraction) → x ≡ exceptionFraction
+between-odd x f v h k = eq→same binary32 x false 65792 (negsuc 24) f (unfold fits in tt) (antisymm x exceptionFraction k h)
 
-unit-law : (x : Float) → T (fits binary32 x) → T (le nought x) → T (le x one) → (x ≡ odd-one) ⊎ (plainIndex x ≡ laneIndex x)
+unit-law : (x : Float) → T (fits binary32 x) → T (le nought x) → T (le x one) → (x ≡ exceptionFraction) ⊎ (plainIndex x ≡ laneIndex x)
 unit-law x f h k =
     let v = between nought x one tt tt h k in
     elim (sep 0x3B00_807F x (first-stretch .2) f v) [
@@ -133,10 +133,10 @@ unit-law x f h k =
     ]
 
 -- ---- THE LAW
-pub ramp-law : (x : Float) → T (fits binary32 x) → T (inUnit x) → (x ≡ odd-one) ⊎ (plainIndex x ≡ laneIndex x)
+pub ramp-law : (x : Float) → T (fits binary32 x) → T (inUnit x) → (x ≡ exceptionFraction) ⊎ (plainIndex x ≡ laneIndex x)
 ramp-law x f u = unit-law x f (and-l (le nought x) (le x one) u) (and-r (le nought x) (le x one) u)
 
-pub odd-one-bits : toBits binary32 odd-one ≡ 0x3B00_8080
+pub odd-one-bits : toBits binary32 exceptionFraction ≡ 0x3B00_8080
 unfolding toBits
 odd-one-bits = refl
 
@@ -146,5 +146,5 @@ index-same x f u n = elim (ramp-law x f u) [ inl e ↦ absurd (n (ap (toBits bin
 
 pub index-differs : (x : Float) → T (fits binary32 x) → toBits binary32 x ≡ 0x3B00_8080 → (plainIndex x ≡ 0) × (laneIndex x ≡ 1)
 index-differs x f b =
-    let e : x ≡ odd-one = sym (ofBits-toBits binary32 x f) ∙ ap (ofBits binary32) b ∙ odd-one-is in
+    let e : x ≡ exceptionFraction = sym (ofBits-toBits binary32 x f) ∙ ap (ofBits binary32) b ∙ odd-one-is in
     (ap plainIndex e ∙ at-odd-one .0, ap laneIndex e ∙ at-odd-one .1)

@@ -22,14 +22,14 @@ halfUp (fin false m e) = (m * up e * 2 + down e) / (down e * 2)
 abbrev pub c255 : Float
 c255 = fin false 255 (pos 0)
 
-abbrev pub half : Float
-half = fin false 1 (negsuc 0)
+abbrev pub oneHalf : Float
+oneHalf = fin false 1 (negsuc 0)
 
 unfoldable pub plainIndex : Float → ℕ
 plainIndex x = halfUp (mul binary32 x c255)
 
 unfoldable pub laneIndex : Float → ℕ
-laneIndex x = min 255 (floorOf (add binary32 (mul binary32 x c255) half))
+laneIndex x = min 255 (floorOf (add binary32 (mul binary32 x c255) oneHalf))
 
 -- the fractions that have an entry: from 0 to 1, so no NaN
 abbrev pub nought : Float
@@ -42,5 +42,5 @@ abbrev pub inUnit : Float → Bool
 inUnit x = le nought x && le x one
 
 -- the one fraction at which the two indexes differ: the f32 with the bits 3B008080, 65793 / 2 ^ 25
-abbrev pub odd-one : Float
-odd-one = fin false 65793 (negsuc 24)
+abbrev pub exceptionFraction : Float
+exceptionFraction = fin false 65793 (negsuc 24)

@@ -29,19 +29,19 @@ use Rattle.legend.specs.declared.LegendKind.the-variants as kind
 use Rattle.legend.specs.declared.Legend.{Legend}
 
 -- unmappable samples get the nodata colour, the others the colour of a rule
-abbrev pub settled : (stored : Answer) (simd : Bool) → MappingConfig → Nodata → (plain : Float → ℕ) (lanes : List Float → List ℕ) → Painter
-settled stored simd config nodata = painterOf stored simd (unmappable nodata (config .«zero_is_nodata»)) (config .«nodata_color»)
+abbrev pub maskedPainter : (stored : Answer) (simd : Bool) → MappingConfig → Nodata → (plain : Float → ℕ) (lanes : List Float → List ℕ) → Painter
+maskedPainter stored simd config nodata = painterOf stored simd (unmappable nodata (config .«zero_is_nodata»)) (config .«nodata_color»)
 
 unfoldable pub linearPainter : Linear → MappingConfig → Nodata → Painter
 linearPainter l config nodata =
     let colors = linearColors (l .cmap) config in
-    settled Done true config nodata (linear.plainColor (l .cmap) (l .start) (l .end) colors) (linear.laneColors (l .cmap) (l .start) (l .end) colors)
+    maskedPainter Done true config nodata (linear.plainColor (l .cmap) (l .start) (l .end) colors) (linear.laneColors (l .cmap) (l .start) (l .end) colors)
 
 -- by a list of bands
 unfoldable pub bandsPainter : (stored : Answer) → List LegendBand → MappingConfig → Nodata → Painter
 bandsPainter stored bs config nodata =
     let colors = bandedUnmappable bs config in
-    settled stored true config nodata (bands.plainColor bs colors) (lanes.laneColors bs colors)
+    maskedPainter stored true config nodata (bands.plainColor bs colors) (lanes.laneColors bs colors)
 
 -- the bands that are counted
 abbrev pub bandedPainter : Banded → MappingConfig → Nodata → Painter
@@ -50,7 +50,7 @@ bandedPainter b config nodata = bandsPainter (bandedRefusal (b .count)) (counted
 -- without a table it has no rule for lanes
 unfoldable pub categoricPainter : CategoricNumeric → MappingConfig → Nodata → Painter
 categoricPainter c config nodata =
-    settled (categoricRefusal (c .count) (c .«lookup_count»)) (ltb 0 (c .«lookup_count»)) config nodata
+    maskedPainter (categoricRefusal (c .count) (c .«lookup_count»)) (ltb 0 (c .«lookup_count»)) config nodata
     (categories.plainColor (c .keys) (c .colors) (c .count) (c .lookup) (c .«lookup_count») (config .«nodata_color»))
     (words.laneColors (c .lookup) (c .«lookup_count») (config .«nodata_color»))
 

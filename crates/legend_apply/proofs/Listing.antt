@@ -15,7 +15,7 @@ use Rattle.cast.specs.declared.Nodata.the-variants.{Absent}
 use Rattle.banded_lists.specs.declared.ValueRange.{ValueRange}
 use Rattle.legend.specs.declared.Legend.{Legend}
 use Rattle.legend.specs.Painters.{painter}
-use Rattle.legend_range.specs.ValueRanges.{rangeIn, rangeRefusal}
+use Rattle.legend_range.specs.ValueRanges.{rangeIn, totalRangeRefusal}
 use Rattle.legend_apply.specs.declared.ColorList.{ColorList}
 use Rattle.legend_apply.specs.ColorLists.{valueAt, listColors, colorList}
 
@@ -29,10 +29,10 @@ pub value-is : (range : ValueRange) (i : ℕ)
 unfolding valueAt
 value-is range i = ap (λ (d : Float). add binary32 (range .start) (mul binary32 (sub binary32 (range .end) (range .start)) (div binary32 (ofInt binary32 (pos i)) d))) last
 
-module _ (l : Legend) {a : Answer} (e : a ≡ rangeRefusal l) where
-  both : {words : List ℕ} → words ≡ ifDone (rangeRefusal l) (listColors l) (replicate 256 0) → _≡_ {A = ColorList} (record { answer = a; colors = words }) (colorList l)
+module _ (l : Legend) {a : Answer} (e : a ≡ totalRangeRefusal l) where
+  both : {words : List ℕ} → words ≡ ifDone (totalRangeRefusal l) (listColors l) (replicate 256 0) → _≡_ {A = ColorList} (record { answer = a; colors = words }) (colorList l)
   unfolding colorList
-  both {words} w = ap (λ (x : Answer). record { answer = x; colors = words }) e ∙ ap (λ (ws : List ℕ). record { answer = rangeRefusal l; colors = ws }) w
+  both {words} w = ap (λ (x : Answer). record { answer = x; colors = words }) e ∙ ap (λ (ws : List ℕ). record { answer = totalRangeRefusal l; colors = ws }) w
 
   pub list-refused : {why : Refusal} → a ≡ Refused why → _≡_ {A = ColorList} (record { answer = a; colors = replicate 256 0 }) (colorList l)
   list-refused h = both (sym (when-refused (listColors l) (replicate 256 0) (sym e ∙ h)))

@@ -10,7 +10,7 @@ use Rattle.cast.specs.declared.Nodata.the-variants.{Absent}
 use Rattle.banded_lists.specs.declared.ValueRange.{ValueRange}
 use Rattle.legend.specs.declared.Legend.{Legend}
 use Rattle.legend.specs.Painters.{painter}
-use Rattle.legend_range.specs.ValueRanges.{rangeIn, rangeRefusal}
+use Rattle.legend_range.specs.ValueRanges.{rangeIn, totalRangeRefusal}
 use Rattle.legend_apply.specs.declared.ColorList.{ColorList}
 
 -- the value at a position i of 256: start + (end - start) × (i / 255)
@@ -23,4 +23,4 @@ listColors l = map (painter l Absent .plain) (tabulate 256 (valueAt (rangeIn (l 
 
 -- 16, 17; TRANSPARENT throughout beside a refusal
 unfoldable pub colorList : Legend → ColorList
-colorList l = record { answer = rangeRefusal l; colors = ifDone (rangeRefusal l) (listColors l) (replicate 256 0) }
+colorList l = record { answer = totalRangeRefusal l; colors = ifDone (totalRangeRefusal l) (listColors l) (replicate 256 0) }

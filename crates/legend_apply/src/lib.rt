@@ -27,8 +27,8 @@ pub fn apply_to_data_scalar(legend: Legend, src: &[f32], nodata: Nodata, out: &m
     let keys = categoric.keys;
     let colors = categoric.colors;
     let lookup = categoric.lookup;
-    let head = legend_view::head_of(legend);
-    legend_scalar::apply_to_data_scalar(head, &cmap, &keys, &colors, &lookup, src, nodata, out)
+    let view = legend_view::view_of(legend);
+    legend_scalar::apply_to_data_scalar(view, &cmap, &keys, &colors, &lookup, src, nodata, out)
 }
 
 pub fn apply_to_data_kernel(
@@ -47,9 +47,9 @@ pub fn apply_to_data_kernel(
     let keys = categoric.keys;
     let colors = categoric.colors;
     let lookup = categoric.lookup;
-    let head = legend_view::head_of(legend);
+    let view = legend_view::view_of(legend);
     legend_kernel::apply_to_data_kernel(
-        head,
+        view,
         &cmap,
         &keys,
         &colors,
@@ -67,7 +67,7 @@ pub fn apply_to_data_kernel(
 pub fn color_list(legend: Legend) -> ColorList
     ensures { λ r. ⌜ r ≡ colorList legend ⌝ }
 {
-    let answer = legend_range::range_refusal(legend);
+    let answer = legend_range::total_range_refusal(legend);
     let mut colors = [0u32; 256];
     if let Answer::Refused(_) = answer {
         return ColorList { answer, colors };
@@ -79,9 +79,9 @@ pub fn color_list(legend: Legend) -> ColorList
     let keys = categoric.keys;
     let words = categoric.colors;
     let lookup = categoric.lookup;
-    let head = legend_view::head_of(legend);
+    let view = legend_view::view_of(legend);
     legend_paint::paint(
-        head,
+        view,
         &cmap,
         &keys,
         &words,

@@ -12,11 +12,11 @@ use Rattle.legend.specs.Record.{linearLegend, bandedLegend, categoricLegend, em
 abbrev pub legendUnless : Answer → Legend → MadeLegend
 legendUnless answer legend = record { answer = answer; legend = ifDone answer legend emptyLegend }
 
-unfoldable pub madeLinear : MadeLinear → MappingConfig → MadeLegend
-madeLinear made config = legendUnless (made .answer) (linearLegend (made .linear) config)
+unfoldable pub linearWithSettings : MadeLinear → MappingConfig → MadeLegend
+linearWithSettings made config = legendUnless (made .answer) (linearLegend (made .linear) config)
 
-unfoldable pub madeBanded : MadeBanded → MappingConfig → MadeLegend
-madeBanded made config = legendUnless (made .answer) (bandedLegend (made .banded) config)
+unfoldable pub bandedWithSettings : MadeBanded → MappingConfig → MadeLegend
+bandedWithSettings made config = legendUnless (made .answer) (bandedLegend (made .banded) config)
 
-unfoldable pub madeCategoric : MadeCategoric → MappingConfig → MadeLegend
-madeCategoric made config = legendUnless (made .answer) (categoricLegend (made .categoric) config)
+unfoldable pub categoricWithSettings : MadeCategoric → MappingConfig → MadeLegend
+categoricWithSettings made config = legendUnless (made .answer) (categoricLegend (made .categoric) config)

@@ -16,7 +16,7 @@ ghost use Rattle.linear.specs.Made.{linearOfRamp, linearOfList};
 ghost use Rattle.banded.specs.EqualBands.{withEqualBands};
 ghost use Rattle.banded.specs.ManualRanges.{withManualRanges};
 ghost use Rattle.catgegoric.specs.Made.{forValues, forValuesFromRamp, forValueRange, forValueRangeFromRamp};
-ghost use Rattle.legend_builders.specs.Building.{madeLinear, madeBanded, madeCategoric};
+ghost use Rattle.legend_builders.specs.Building.{linearWithSettings, bandedWithSettings, categoricWithSettings};
 
 // A legend that was asked for: the empty one beside a refusal.
 pub struct MadeLegend {
@@ -26,8 +26,8 @@ pub struct MadeLegend {
 
 // ---- from what a kind's builder made
 
-fn made_linear(made: MadeLinear, config: MappingConfig) -> MadeLegend
-    ensures { λ r. ⌜ r ≡ madeLinear made config ⌝ }
+fn linear_with_settings(made: MadeLinear, config: MappingConfig) -> MadeLegend
+    ensures { λ r. ⌜ r ≡ linearWithSettings made config ⌝ }
 {
     let answer = made.answer;
     if let Answer::Refused(_) = answer {
@@ -43,8 +43,8 @@ fn made_linear(made: MadeLinear, config: MappingConfig) -> MadeLegend
     }
 }
 
-pub fn made_banded(made: MadeBanded, config: MappingConfig) -> MadeLegend
-    ensures { λ r. ⌜ r ≡ madeBanded made config ⌝ }
+pub fn banded_with_settings(made: MadeBanded, config: MappingConfig) -> MadeLegend
+    ensures { λ r. ⌜ r ≡ bandedWithSettings made config ⌝ }
 {
     let answer = made.answer;
     if let Answer::Refused(_) = answer {
@@ -60,8 +60,8 @@ pub fn made_banded(made: MadeBanded, config: MappingConfig) -> MadeLegend
     }
 }
 
-fn made_categoric(made: MadeCategoric, config: MappingConfig) -> MadeLegend
-    ensures { λ r. ⌜ r ≡ madeCategoric made config ⌝ }
+fn categoric_with_settings(made: MadeCategoric, config: MappingConfig) -> MadeLegend
+    ensures { λ r. ⌜ r ≡ categoricWithSettings made config ⌝ }
 {
     let answer = made.answer;
     if let Answer::Refused(_) = answer {
@@ -80,9 +80,9 @@ fn made_categoric(made: MadeCategoric, config: MappingConfig) -> MadeLegend
 // ---- the builders. Colours come as a list or, by the names that say so, as a ramp.
 
 pub fn create_linear(colors: &[u32], start: f32, end: f32, config: MappingConfig) -> MadeLegend
-    ensures { λ r. ⌜ r ≡ madeLinear (linearOfList start end (now (colors .entry))) config ⌝ }
+    ensures { λ r. ⌜ r ≡ linearWithSettings (linearOfList start end (now (colors .entry))) config ⌝ }
 {
-    made_linear(Linear::with_color_list(start, end, colors), config)
+    linear_with_settings(Linear::with_color_list(start, end, colors), config)
 }
 
 pub fn create_linear_from_ramp(
@@ -91,9 +91,9 @@ pub fn create_linear_from_ramp(
     end: f32,
     config: MappingConfig,
 ) -> MadeLegend
-    ensures { λ r. ⌜ r ≡ madeLinear (linearOfRamp start end (ramp .cmap)) config ⌝ }
+    ensures { λ r. ⌜ r ≡ linearWithSettings (linearOfRamp start end (ramp .cmap)) config ⌝ }
 {
-    made_linear(Linear::new(start, end, ramp), config)
+    linear_with_settings(Linear::new(start, end, ramp), config)
 }
 
 pub fn create_banded(
@@ -103,9 +103,9 @@ pub fn create_banded(
     end: f32,
     config: MappingConfig,
 ) -> MadeLegend
-    ensures { λ r. ⌜ r ≡ madeBanded (withEqualBands count start end (now (colors .entry))) config ⌝ }
+    ensures { λ r. ⌜ r ≡ bandedWithSettings (withEqualBands count start end (now (colors .entry))) config ⌝ }
 {
-    made_banded(Banded::with_equal_bands(count, start, end, colors), config)
+    banded_with_settings(Banded::with_equal_bands(count, start, end, colors), config)
 }
 
 pub fn create_banded_from_ramp(
@@ -115,9 +115,9 @@ pub fn create_banded_from_ramp(
     end: f32,
     config: MappingConfig,
 ) -> MadeLegend
-    ensures { λ r. ⌜ r ≡ madeBanded (withEqualBands count start end (rampColors count (now (cmap .entry)))) config ⌝ }
+    ensures { λ r. ⌜ r ≡ bandedWithSettings (withEqualBands count start end (rampColors count (now (cmap .entry)))) config ⌝ }
 {
-    made_banded(
+    banded_with_settings(
         Banded::with_equal_bands_from_ramp(count, start, end, cmap),
         config,
     )
@@ -128,9 +128,9 @@ pub fn create_banded_manual_ranges(
     values: ValueRanges,
     config: MappingConfig,
 ) -> MadeLegend
-    ensures { λ r. ⌜ r ≡ madeBanded (withManualRanges values (now (colors .entry))) config ⌝ }
+    ensures { λ r. ⌜ r ≡ bandedWithSettings (withManualRanges values (now (colors .entry))) config ⌝ }
 {
-    made_banded(Banded::with_manual_ranges(values, colors), config)
+    banded_with_settings(Banded::with_manual_ranges(values, colors), config)
 }
 
 pub fn create_banded_manual_ranges_from_ramp(
@@ -138,9 +138,9 @@ pub fn create_banded_manual_ranges_from_ramp(
     values: ValueRanges,
     config: MappingConfig,
 ) -> MadeLegend
-    ensures { λ r. ⌜ r ≡ madeBanded (withManualRanges values (rampColors (values .count) (now (cmap .entry)))) config ⌝ }
+    ensures { λ r. ⌜ r ≡ bandedWithSettings (withManualRanges values (rampColors (values .count) (now (cmap .entry)))) config ⌝ }
 {
-    made_banded(Banded::with_manual_ranges_from_ramp(values, cmap), config)
+    banded_with_settings(Banded::with_manual_ranges_from_ramp(values, cmap), config)
 }
 
 pub fn create_categoric_for_value_list(
@@ -148,9 +148,9 @@ pub fn create_categoric_for_value_list(
     values: &[i64],
     config: MappingConfig,
 ) -> MadeLegend
-    ensures { λ r. ⌜ r ≡ madeCategoric (forValues (now (values .entry)) (now (colors .entry))) config ⌝ }
+    ensures { λ r. ⌜ r ≡ categoricWithSettings (forValues (now (values .entry)) (now (colors .entry))) config ⌝ }
 {
-    made_categoric(CategoricNumeric::for_values(values, colors), config)
+    categoric_with_settings(CategoricNumeric::for_values(values, colors), config)
 }
 
 pub fn create_categoric_for_value_list_from_ramp(
@@ -158,9 +158,9 @@ pub fn create_categoric_for_value_list_from_ramp(
     values: &[i64],
     config: MappingConfig,
 ) -> MadeLegend
-    ensures { λ r. ⌜ r ≡ madeCategoric (forValuesFromRamp (now (values .entry)) (now (cmap .entry))) config ⌝ }
+    ensures { λ r. ⌜ r ≡ categoricWithSettings (forValuesFromRamp (now (values .entry)) (now (cmap .entry))) config ⌝ }
 {
-    made_categoric(CategoricNumeric::for_values_from_ramp(values, cmap), config)
+    categoric_with_settings(CategoricNumeric::for_values_from_ramp(values, cmap), config)
 }
 
 pub fn create_categoric_for_value_range(
@@ -169,9 +169,9 @@ pub fn create_categoric_for_value_range(
     end: i64,
     config: MappingConfig,
 ) -> MadeLegend
-    ensures { λ r. ⌜ r ≡ madeCategoric (forValueRange start end (now (colors .entry))) config ⌝ }
+    ensures { λ r. ⌜ r ≡ categoricWithSettings (forValueRange start end (now (colors .entry))) config ⌝ }
 {
-    made_categoric(
+    categoric_with_settings(
         CategoricNumeric::for_value_range(start, end, colors),
         config,
     )
@@ -183,9 +183,9 @@ pub fn create_categoric_for_value_range_from_ramp(
     end: i64,
     config: MappingConfig,
 ) -> MadeLegend
-    ensures { λ r. ⌜ r ≡ madeCategoric (forValueRangeFromRamp start end (now (cmap .entry))) config ⌝ }
+    ensures { λ r. ⌜ r ≡ categoricWithSettings (forValueRangeFromRamp start end (now (cmap .entry))) config ⌝ }
 {
-    made_categoric(
+    categoric_with_settings(
         CategoricNumeric::for_value_range_from_ramp(start, end, cmap),
         config,
     )

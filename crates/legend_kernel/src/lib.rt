@@ -2,7 +2,7 @@
 use cast::Nodata;
 use cast::NodataI16;
 use cast::NodataU8;
-use legend_view::Head;
+use legend_view::View;
 use refusal::Answer;
 ghost use mathlib.Core.Path.{_≡_};
 ghost use mathlib.Core.Bool.{cond};
@@ -14,10 +14,10 @@ ghost use Rattle.cast.specs.Nodata.{nodataU8, nodataI16};
 ghost use Rattle.painting.specs.Painted.{scratchAfter};
 ghost use Rattle.painting.specs.Contracts.{LanePainting};
 ghost use Rattle.legend.specs.Painters.{painter};
-ghost use Rattle.legend_view.specs.Lent.{lentLegend};
+ghost use Rattle.legend_view.specs.Borrowed.{borrowedLegend};
 
 pub fn apply_to_data_kernel(
-    head: Head,
+    view: View,
     cmap: &[u32; 256],
     keys: &[i64; 256],
     colors: &[u32; 256],
@@ -28,10 +28,10 @@ pub fn apply_to_data_kernel(
     out: &mut [u32],
     scratch: &mut [u32],
 ) -> Answer
-    ensures { λ r. ⌜ LanePainting (painter (lentLegend head (now (cmap .entry)) (now (keys .entry)) (now (colors .entry)) (now (lookup .entry))) nodata) lanes (now (src .entry)) (now (out .entry)) (now (scratch .entry)) r (now (out .exit)) (now (scratch .exit)) ⌝ }
+    ensures { λ r. ⌜ LanePainting (painter (borrowedLegend view (now (cmap .entry)) (now (keys .entry)) (now (colors .entry)) (now (lookup .entry))) nodata) lanes (now (src .entry)) (now (out .entry)) (now (scratch .entry)) r (now (out .exit)) (now (scratch .exit)) ⌝ }
 {
     let answer = painting::lane_refusal(
-        head.stored_refusal(),
+        view.stored_refusal(),
         lanes,
         scratch.len(),
         src.len(),
@@ -40,14 +40,14 @@ pub fn apply_to_data_kernel(
     if let Answer::Refused(_) = answer {
         return answer;
     }
-    let simd = head.simd_supported();
-    legend_paint::paint_simd(head, cmap, keys, colors, lookup, nodata, lanes, src, out);
-    keep(simd, lanes, out, scratch);
+    let simd = view.simd_supported();
+    legend_paint::paint_simd(view, cmap, keys, colors, lookup, nodata, lanes, src, out);
+    update_scratch(simd, lanes, out, scratch);
     answer
 }
 
 pub fn apply_to_data_kernel_u8(
-    head: Head,
+    view: View,
     cmap: &[u32; 256],
     keys: &[i64; 256],
     colors: &[u32; 256],
@@ -58,10 +58,10 @@ pub fn apply_to_data_kernel_u8(
     out: &mut [u32],
     scratch: &mut [u32],
 ) -> Answer
-    ensures { λ r. ⌜ LanePainting (painter (lentLegend head (now (cmap .entry)) (now (keys .entry)) (now (colors .entry)) (now (lookup .entry))) (nodataU8 nodata)) lanes (map ofU8 (now (src .entry))) (now (out .entry)) (now (scratch .entry)) r (now (out .exit)) (now (scratch .exit)) ⌝ }
+    ensures { λ r. ⌜ LanePainting (painter (borrowedLegend view (now (cmap .entry)) (now (keys .entry)) (now (colors .entry)) (now (lookup .entry))) (nodataU8 nodata)) lanes (map ofU8 (now (src .entry))) (now (out .entry)) (now (scratch .entry)) r (now (out .exit)) (now (scratch .exit)) ⌝ }
 {
     let answer = painting::lane_refusal(
-        head.stored_refusal(),
+        view.stored_refusal(),
         lanes,
         scratch.len(),
         src.len(),
@@ -70,15 +70,15 @@ pub fn apply_to_data_kernel_u8(
     if let Answer::Refused(_) = answer {
         return answer;
     }
-    let simd = head.simd_supported();
+    let simd = view.simd_supported();
     let value = cast::option_u8(nodata);
-    legend_samples::paint_u8(head, cmap, keys, colors, lookup, value, lanes, src, out);
-    keep(simd, lanes, out, scratch);
+    legend_samples::paint_u8(view, cmap, keys, colors, lookup, value, lanes, src, out);
+    update_scratch(simd, lanes, out, scratch);
     answer
 }
 
 pub fn apply_to_data_kernel_i16(
-    head: Head,
+    view: View,
     cmap: &[u32; 256],
     keys: &[i64; 256],
     colors: &[u32; 256],
@@ -89,10 +89,10 @@ pub fn apply_to_data_kernel_i16(
     out: &mut [u32],
     scratch: &mut [u32],
 ) -> Answer
-    ensures { λ r. ⌜ LanePainting (painter (lentLegend head (now (cmap .entry)) (now (keys .entry)) (now (colors .entry)) (now (lookup .entry))) (nodataI16 nodata)) lanes (map ofI16 (now (src .entry))) (now (out .entry)) (now (scratch .entry)) r (now (out .exit)) (now (scratch .exit)) ⌝ }
+    ensures { λ r. ⌜ LanePainting (painter (borrowedLegend view (now (cmap .entry)) (now (keys .entry)) (now (colors .entry)) (now (lookup .entry))) (nodataI16 nodata)) lanes (map ofI16 (now (src .entry))) (now (out .entry)) (now (scratch .entry)) r (now (out .exit)) (now (scratch .exit)) ⌝ }
 {
     let answer = painting::lane_refusal(
-        head.stored_refusal(),
+        view.stored_refusal(),
         lanes,
         scratch.len(),
         src.len(),
@@ -101,15 +101,15 @@ pub fn apply_to_data_kernel_i16(
     if let Answer::Refused(_) = answer {
         return answer;
     }
-    let simd = head.simd_supported();
+    let simd = view.simd_supported();
     let value = cast::option_i16(nodata);
-    legend_samples::paint_i16(head, cmap, keys, colors, lookup, value, lanes, src, out);
-    keep(simd, lanes, out, scratch);
+    legend_samples::paint_i16(view, cmap, keys, colors, lookup, value, lanes, src, out);
+    update_scratch(simd, lanes, out, scratch);
     answer
 }
 
 // Scratch after lane painting: a legend without a rule for lanes, painted plainly, leaves it.
-fn keep(simd: bool, lanes: usize, out: &[u32], scratch: &mut [u32])
+fn update_scratch(simd: bool, lanes: usize, out: &[u32], scratch: &mut [u32])
     requires { ⌜ (0 < lanes) × (lanes ≤ length (now scratch)) ⌝ }
     ensures { λ _. ⌜ now (scratch .exit) ≡ cond simd (scratchAfter lanes (now (out .entry)) (now (scratch .entry))) (now (scratch .entry)) ⌝ }
 {

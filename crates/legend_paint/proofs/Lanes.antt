@@ -10,7 +10,7 @@ use lib.Ieee.{Float}
 use Rattle.painting.specs.Painted.{plainPainted, lanePainted}
 use Rattle.painting.specs.Contracts.{Painter, laneCount}
 use Rattle.painting.proofs.Refusals.{lane-sizes}
-use Rattle.legend_paint.specs.PlainOrLanes.{painted, plainOrLanes}
+use Rattle.legend_paint.specs.forms.PlainOrLanes.{painted, plainOrLanes}
 
 -- ---- 0 lanes, or a lane count
 or-else : (a b : Bool) → (a || b) ≡ true → a ≡ false → b ≡ true

@@ -18,7 +18,7 @@ use Rattle.linear_rule.specs.Rule as linear
 use Rattle.banded_columns.specs.declared.LegendBand.{LegendBand}
 use Rattle.banded_rule.specs.PlainRule as bands
 use Rattle.banded_lanes.specs.LaneRule as lanes
-use Rattle.banded_rule.specs.Packed.{packed}
+use Rattle.banded_rule.specs.forms.Columns.{fromColumns}
 use Rattle.banded.specs.declared.Banded.{Banded}
 use Rattle.banded.specs.Record.{counted}
 use Rattle.banded.specs.Unmappable.{bandedUnmappable}
@@ -27,13 +27,13 @@ use Rattle.categoric_table.specs.Rule as words
 use Rattle.categoric_keys.specs.Rule as categories
 use Rattle.categoric_keys.proofs.Rules.{with-table, without-table}
 use Rattle.catgegoric.specs.declared.CategoricNumeric.{CategoricNumeric}
-use Rattle.linear_paint.specs.Rules as linearly
+use Rattle.linear_paint.specs.forms.Samples as linearly
 use Rattle.banded_chunk.specs.declared.BandedPaint.{BandedPaint}
-use Rattle.banded_chunk.specs.Rules as bandedly
-use Rattle.categoric_paint.specs.TableRules.{tableSample, tableChunk}
-use Rattle.categoric_paint.specs.KeyRules.{keySample}
+use Rattle.banded_chunk.specs.forms.Samples as bandedly
+use Rattle.categoric_paint.specs.forms.TableSamples.{tableSample, tableChunk}
+use Rattle.categoric_paint.specs.forms.KeySamples.{keySample}
 use Rattle.legend.specs.Painters.{linearPainter, bandsPainter, bandedPainter, categoricPainter}
-use Rattle.legend_paint.specs.Paints.{linearPaint, bandedPaint, categoricPaint}
+use Rattle.legend_paint.specs.forms.Paints.{linearPaint, bandedPaint, categoricPaint}
 
 -- the two forms of the test of a sample
 test-is : (nodata : Nodata) (flag : Bool) → excluded (exclusionsOf nodata flag) ≡ unmappable nodata flag
@@ -72,19 +72,19 @@ module _ (config : MappingConfig) (nodata : Nodata) where
     -- the bands, unpacked into three arrays
     module _ {starts ends : List Float} {colors : List ℕ} {p : BandedPaint} (h : b .count ≤ length (b .bands)) (paint : p ≡ bandedPaint b config nodata)
         (e : starts ≡ map (λ (x : LegendBand). x .start) (b .bands)) (f : ends ≡ map (λ (x : LegendBand). x .end) (b .bands)) (g : colors ≡ map (λ (x : LegendBand). x .color) (b .bands)) where
-      counted-is : packed starts ends colors (b .count) ≡ counted b
-      unfolding packed
+      counted-is : fromColumns starts ends colors (b .count) ≡ counted b
+      unfolding fromColumns
       counted-is =
-          ap (λ (s : List Float). packed s ends colors (b .count)) e
-          ∙ ap (λ (t : List Float). packed (map (λ (x : LegendBand). x .start) (b .bands)) t colors (b .count)) f
-          ∙ ap (λ (w : List ℕ). packed (map (λ (x : LegendBand). x .start) (b .bands)) (map (λ (x : LegendBand). x .end) (b .bands)) w (b .count)) g
+          ap (λ (s : List Float). fromColumns s ends colors (b .count)) e
+          ∙ ap (λ (t : List Float). fromColumns (map (λ (x : LegendBand). x .start) (b .bands)) t colors (b .count)) f
+          ∙ ap (λ (w : List ℕ). fromColumns (map (λ (x : LegendBand). x .start) (b .bands)) (map (λ (x : LegendBand). x .end) (b .bands)) w (b .count)) g
           ∙ repacked (b .count) (b .bands) h
 
-      pub bands-sample : bandedly.plainSample (packed starts ends colors (p .count)) p ≡ bandedPainter b config nodata .plain
-      bands-sample = ap (λ (q : BandedPaint). bandedly.plainSample (packed starts ends colors (q .count)) q) paint ∙ ap (λ (bs : List LegendBand). bandedly.plainSample bs (bandedPaint b config nodata)) counted-is ∙ banded-sample
+      pub bands-sample : bandedly.plainSample (fromColumns starts ends colors (p .count)) p ≡ bandedPainter b config nodata .plain
+      bands-sample = ap (λ (q : BandedPaint). bandedly.plainSample (fromColumns starts ends colors (q .count)) q) paint ∙ ap (λ (bs : List LegendBand). bandedly.plainSample bs (bandedPaint b config nodata)) counted-is ∙ banded-sample
 
-      pub bands-chunk : bandedly.laneChunk (packed starts ends colors (p .count)) p ≡ bandedPainter b config nodata .chunk
-      bands-chunk = ap (λ (q : BandedPaint). bandedly.laneChunk (packed starts ends colors (q .count)) q) paint ∙ ap (λ (bs : List LegendBand). bandedly.laneChunk bs (bandedPaint b config nodata)) counted-is ∙ banded-chunk
+      pub bands-chunk : bandedly.laneChunk (fromColumns starts ends colors (p .count)) p ≡ bandedPainter b config nodata .chunk
+      bands-chunk = ap (λ (q : BandedPaint). bandedly.laneChunk (fromColumns starts ends colors (q .count)) q) paint ∙ ap (λ (bs : List LegendBand). bandedly.laneChunk bs (bandedPaint b config nodata)) counted-is ∙ banded-chunk
 
   module _ (c : CategoricNumeric) where
     pub table-simd : 0 < c .«lookup_count» → categoricPainter c config nodata .simd ≡ true

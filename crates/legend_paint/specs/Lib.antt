@@ -1,2 +1,1 @@
-pub mod Paints
-pub mod PlainOrLanes
+pub mod forms

@@ -8,7 +8,7 @@ use categoric_paint::keys;
 use categoric_paint::table;
 use colormapper::MappingConfig;
 use legend::LegendKind;
-use legend_view::Head;
+use legend_view::View;
 use linear_paint::LinearPaint;
 ghost use mathlib.Core.Path.{_≡_};
 ghost use mathlib.Core.Bool.{true};
@@ -18,9 +18,9 @@ ghost use Rattle.refusal.specs.declared.Answer.the-variants.{Done};
 ghost use Rattle.painting.specs.Contracts.{laneCount};
 ghost use Rattle.legend.specs.Record.{storedRefusal};
 ghost use Rattle.legend.specs.Painters.{painter, linearPainter, bandedPainter, categoricPainter};
-ghost use Rattle.legend_view.specs.Lent.{lentLinear, lentCategoric, lentLegend};
-ghost use Rattle.legend_paint.specs.Paints.{linearPaint, bandedPaint, categoricPaint};
-ghost use Rattle.legend_paint.specs.PlainOrLanes.{painted, plainOrLanes};
+ghost use Rattle.legend_view.specs.Borrowed.{borrowedLinear, borrowedCategoric, borrowedLegend};
+ghost use Rattle.legend_paint.specs.forms.Paints.{linearPaint, bandedPaint, categoricPaint};
+ghost use Rattle.legend_paint.specs.forms.PlainOrLanes.{painted, plainOrLanes};
 
 // ---- what each kind's painters are handed
 
@@ -31,7 +31,7 @@ fn linear_paint(
     config: MappingConfig,
     nodata: Nodata,
 ) -> LinearPaint
-    ensures { λ r. ⌜ r ≡ linearPaint (lentLinear start end (now (cmap .entry))) config nodata ⌝ }
+    ensures { λ r. ⌜ r ≡ linearPaint (borrowedLinear start end (now (cmap .entry))) config nodata ⌝ }
 {
     LinearPaint {
         start,
@@ -74,7 +74,7 @@ fn paint_linear(
     out: &mut [u32],
 )
     requires { ⌜ (plainOrLanes lanes ≡ true) × (length (now out) ≡ length (now src)) ⌝ }
-    ensures { λ _. ⌜ now (out .exit) ≡ painted (linearPainter (lentLinear start end (now (cmap .entry))) config nodata) lanes (now (src .entry)) ⌝ }
+    ensures { λ _. ⌜ now (out .exit) ≡ painted (linearPainter (borrowedLinear start end (now (cmap .entry))) config nodata) lanes (now (src .entry)) ⌝ }
 {
     let p = linear_paint(start, end, cmap, config, nodata);
     if lanes == 0 {
@@ -121,7 +121,7 @@ fn paint_categoric(
     out: &mut [u32],
 )
     requires { ⌜ (count ≤ 256) × (size ≤ 513) × (plainOrLanes lanes ≡ true) × (length (now out) ≡ length (now src)) ⌝ }
-    ensures { λ _. ⌜ now (out .exit) ≡ painted (categoricPainter (lentCategoric (now (keys .entry)) (now (colors .entry)) count (now (lookup .entry)) size) config nodata) lanes (now (src .entry)) ⌝ }
+    ensures { λ _. ⌜ now (out .exit) ≡ painted (categoricPainter (borrowedCategoric (now (keys .entry)) (now (colors .entry)) count (now (lookup .entry)) size) config nodata) lanes (now (src .entry)) ⌝ }
 {
     let p = categoric_paint(config, nodata);
     if size == 0 {
@@ -139,7 +139,7 @@ fn paint_categoric(
 
 // Sample by sample, with an output of the raster's length.
 pub fn paint(
-    head: Head,
+    view: View,
     cmap: &[u32; 256],
     keys: &[i64; 256],
     colors: &[u32; 256],
@@ -148,25 +148,25 @@ pub fn paint(
     src: &[f32],
     out: &mut [u32],
 )
-    requires { ⌜ (storedRefusal (lentLegend head (now cmap) (now keys) (now colors) (now lookup)) ≡ Done) × (length (now out) ≡ length (now src)) ⌝ }
-    ensures { λ _. ⌜ now (out .exit) ≡ painted (painter (lentLegend head (now (cmap .entry)) (now (keys .entry)) (now (colors .entry)) (now (lookup .entry))) nodata) 0 (now (src .entry)) ⌝ }
+    requires { ⌜ (storedRefusal (borrowedLegend view (now cmap) (now keys) (now colors) (now lookup)) ≡ Done) × (length (now out) ≡ length (now src)) ⌝ }
+    ensures { λ _. ⌜ now (out .exit) ≡ painted (painter (borrowedLegend view (now (cmap .entry)) (now (keys .entry)) (now (colors .entry)) (now (lookup .entry))) nodata) 0 (now (src .entry)) ⌝ }
 {
-    let config = head.mapping_config;
-    let kind = head.kind;
+    let config = view.mapping_config;
+    let kind = view.kind;
     match kind {
         LegendKind::Linear => {
-            paint_linear(head.start, head.end, cmap, config, nodata, 0, src, out)
+            paint_linear(view.start, view.end, cmap, config, nodata, 0, src, out)
         }
         LegendKind::Banded => {
-            let banded = head.banded;
+            let banded = view.banded;
             paint_banded(banded, config, nodata, 0, src, out)
         }
         LegendKind::CategoricNumeric => paint_categoric(
             keys,
             colors,
-            head.count,
+            view.count,
             lookup,
-            head.lookup_count,
+            view.lookup_count,
             config,
             nodata,
             0,
@@ -178,7 +178,7 @@ pub fn paint(
 
 // Chunks of l samples by the lane rule, then the rest plainly; a legend without a rule for lanes plainly.
 pub fn paint_simd(
-    head: Head,
+    view: View,
     cmap: &[u32; 256],
     keys: &[i64; 256],
     colors: &[u32; 256],
@@ -188,25 +188,25 @@ pub fn paint_simd(
     src: &[f32],
     out: &mut [u32],
 )
-    requires { ⌜ (storedRefusal (lentLegend head (now cmap) (now keys) (now colors) (now lookup)) ≡ Done) × (plainOrLanes l ≡ true) × (length (now out) ≡ length (now src)) ⌝ }
-    ensures { λ _. ⌜ now (out .exit) ≡ painted (painter (lentLegend head (now (cmap .entry)) (now (keys .entry)) (now (colors .entry)) (now (lookup .entry))) nodata) l (now (src .entry)) ⌝ }
+    requires { ⌜ (storedRefusal (borrowedLegend view (now cmap) (now keys) (now colors) (now lookup)) ≡ Done) × (plainOrLanes l ≡ true) × (length (now out) ≡ length (now src)) ⌝ }
+    ensures { λ _. ⌜ now (out .exit) ≡ painted (painter (borrowedLegend view (now (cmap .entry)) (now (keys .entry)) (now (colors .entry)) (now (lookup .entry))) nodata) l (now (src .entry)) ⌝ }
 {
-    let config = head.mapping_config;
-    let kind = head.kind;
+    let config = view.mapping_config;
+    let kind = view.kind;
     match kind {
         LegendKind::Linear => {
-            paint_linear(head.start, head.end, cmap, config, nodata, l, src, out)
+            paint_linear(view.start, view.end, cmap, config, nodata, l, src, out)
         }
         LegendKind::Banded => {
-            let banded = head.banded;
+            let banded = view.banded;
             paint_banded(banded, config, nodata, l, src, out)
         }
         LegendKind::CategoricNumeric => paint_categoric(
             keys,
             colors,
-            head.count,
+            view.count,
             lookup,
-            head.lookup_count,
+            view.lookup_count,
             config,
             nodata,
             l,

@@ -2,7 +2,7 @@
 use cast::Nodata;
 use cast::NodataI16;
 use cast::NodataU8;
-use legend_view::Head;
+use legend_view::View;
 use refusal::Answer;
 use refusal::Refusal;
 ghost use mathlib.Core.Path.{_≡_};
@@ -11,7 +11,7 @@ ghost use Rattle.cast.specs.Samples.{ofU8, ofI16};
 ghost use Rattle.cast.specs.Nodata.{nodataU8, nodataI16};
 ghost use Rattle.legend.specs.Record.{storedRefusal};
 ghost use Rattle.legend.specs.Painters.{painter};
-ghost use Rattle.legend_view.specs.Lent.{lentLegend};
+ghost use Rattle.legend_view.specs.Borrowed.{borrowedLegend};
 ghost use Rattle.legend_pixel.specs.Values.{colorForValue};
 
 // The colour of a sample.
@@ -21,7 +21,7 @@ pub enum PixelColor {
 }
 
 pub fn color_for_value(
-    head: Head,
+    view: View,
     cmap: &[u32; 256],
     keys: &[i64; 256],
     colors: &[u32; 256],
@@ -29,16 +29,16 @@ pub fn color_for_value(
     value: f32,
     nodata: Nodata,
 ) -> PixelColor
-    ensures { λ r. ⌜ r ≡ colorForValue (lentLegend head (now (cmap .entry)) (now (keys .entry)) (now (colors .entry)) (now (lookup .entry))) nodata value ⌝ }
+    ensures { λ r. ⌜ r ≡ colorForValue (borrowedLegend view (now (cmap .entry)) (now (keys .entry)) (now (colors .entry)) (now (lookup .entry))) nodata value ⌝ }
 {
-    match head.stored_refusal() {
+    match view.stored_refusal() {
         Answer::Refused(why) => PixelColor::Refused(why),
-        Answer::Done => PixelColor::Color(pixel(head, cmap, keys, colors, lookup, value, nodata)),
+        Answer::Done => PixelColor::Color(pixel(view, cmap, keys, colors, lookup, value, nodata)),
     }
 }
 
 pub fn color_for_value_u8(
-    head: Head,
+    view: View,
     cmap: &[u32; 256],
     keys: &[i64; 256],
     colors: &[u32; 256],
@@ -46,11 +46,11 @@ pub fn color_for_value_u8(
     value: u8,
     nodata: NodataU8,
 ) -> PixelColor
-    ensures { λ r. ⌜ r ≡ colorForValue (lentLegend head (now (cmap .entry)) (now (keys .entry)) (now (colors .entry)) (now (lookup .entry))) (nodataU8 nodata) (ofU8 value) ⌝ }
+    ensures { λ r. ⌜ r ≡ colorForValue (borrowedLegend view (now (cmap .entry)) (now (keys .entry)) (now (colors .entry)) (now (lookup .entry))) (nodataU8 nodata) (ofU8 value) ⌝ }
 {
     let sample = cast::u8_to_f32(value);
     color_for_value(
-        head,
+        view,
         cmap,
         keys,
         colors,
@@ -61,7 +61,7 @@ pub fn color_for_value_u8(
 }
 
 pub fn color_for_value_i16(
-    head: Head,
+    view: View,
     cmap: &[u32; 256],
     keys: &[i64; 256],
     colors: &[u32; 256],
@@ -69,11 +69,11 @@ pub fn color_for_value_i16(
     value: i16,
     nodata: NodataI16,
 ) -> PixelColor
-    ensures { λ r. ⌜ r ≡ colorForValue (lentLegend head (now (cmap .entry)) (now (keys .entry)) (now (colors .entry)) (now (lookup .entry))) (nodataI16 nodata) (ofI16 value) ⌝ }
+    ensures { λ r. ⌜ r ≡ colorForValue (borrowedLegend view (now (cmap .entry)) (now (keys .entry)) (now (colors .entry)) (now (lookup .entry))) (nodataI16 nodata) (ofI16 value) ⌝ }
 {
     let sample = cast::i16_to_f32(value);
     color_for_value(
-        head,
+        view,
         cmap,
         keys,
         colors,
@@ -85,7 +85,7 @@ pub fn color_for_value_i16(
 
 // A raster of one sample, painted plainly.
 fn pixel(
-    head: Head,
+    view: View,
     cmap: &[u32; 256],
     keys: &[i64; 256],
     colors: &[u32; 256],
@@ -93,13 +93,13 @@ fn pixel(
     value: f32,
     nodata: Nodata,
 ) -> u32
-    requires { ⌜ storedRefusal (lentLegend head (now cmap) (now keys) (now colors) (now lookup)) ≡ Done ⌝ }
-    ensures { λ r. ⌜ r ≡ painter (lentLegend head (now (cmap .entry)) (now (keys .entry)) (now (colors .entry)) (now (lookup .entry))) nodata .plain value ⌝ }
+    requires { ⌜ storedRefusal (borrowedLegend view (now cmap) (now keys) (now colors) (now lookup)) ≡ Done ⌝ }
+    ensures { λ r. ⌜ r ≡ painter (borrowedLegend view (now (cmap .entry)) (now (keys .entry)) (now (colors .entry)) (now (lookup .entry))) nodata .plain value ⌝ }
 {
     let samples = [value; 1];
     let mut words = [0u32; 1];
     legend_paint::paint(
-        head,
+        view,
         cmap,
         keys,
         colors,

@@ -30,7 +30,7 @@ use Rattle.legend.specs.declared.LegendKind.the-variants as kind
 use Rattle.legend.specs.declared.Legend.{Legend}
 use Rattle.legend.specs.Record.{storedRefusal}
 use Rattle.legend.proofs.Stored.{neither}
-use Rattle.legend_range.specs.ValueRanges.{fromTo, bandsRange, keysRange, keysIn, rangeRefusal}
+use Rattle.legend_range.specs.ValueRanges.{fromTo, bandsRange, keysRange, keysIn, totalRangeRefusal}
 
 -- ---- bands
 -- the literal 0.0
@@ -107,10 +107,10 @@ both-done Done b e = (refl, e)
 both-done (Refused why) b e = not-done e
 
 module _ (l : Legend) where
-  pub range-stored : rangeRefusal l ≡ Done → storedRefusal l ≡ Done
-  unfolding rangeRefusal
+  pub range-stored : totalRangeRefusal l ≡ Done → storedRefusal l ≡ Done
+  unfolding totalRangeRefusal
   range-stored e = both-done (storedRefusal l) (keysRefusal (keysIn (l .kind) l)) e .0
 
-  pub range-keys : rangeRefusal l ≡ Done → l .kind ≡ kind.CategoricNumeric → keysRefusal (take (l .categoric .count) (l .categoric .keys)) ≡ Done
-  unfolding rangeRefusal
+  pub range-keys : totalRangeRefusal l ≡ Done → l .kind ≡ kind.CategoricNumeric → keysRefusal (take (l .categoric .count) (l .categoric .keys)) ≡ Done
+  unfolding totalRangeRefusal
   range-keys e k = sym (ap (λ (x : LegendKind). keysRefusal (keysIn x l)) k) ∙ both-done (storedRefusal l) (keysRefusal (keysIn (l .kind) l)) e .1

@@ -54,12 +54,12 @@ rangeValues (total.Range range) = range
 rangeValues (total.Refused why) = fromTo nought nought
 
 -- 16; 17 for a stored key
-unfoldable pub rangeRefusal : Legend → Answer
-rangeRefusal l = firstOf (storedRefusal l) (keysRefusal (keysIn (l .kind) l))
+unfoldable pub totalRangeRefusal : Legend → Answer
+totalRangeRefusal l = firstOf (storedRefusal l) (keysRefusal (keysIn (l .kind) l))
 
 abbrev pub rangeUnless : Answer → ValueRange → TotalRange
 rangeUnless answer.Done range = total.Range range
 rangeUnless (answer.Refused why) range = total.Refused why
 
 unfoldable pub totalValueRange : Legend → TotalRange
-totalValueRange l = rangeUnless (rangeRefusal l) (rangeIn (l .kind) l)
+totalValueRange l = rangeUnless (totalRangeRefusal l) (rangeIn (l .kind) l)

@@ -12,7 +12,7 @@ ghost use lib.ListN.{length, take};
 ghost use Rattle.refusal.specs.declared.Answer.the-variants.{Done};
 ghost use Rattle.categoric_lists.specs.Keys.{keysRefusal};
 ghost use Rattle.legend.specs.Record.{storedRefusal};
-ghost use Rattle.legend_range.specs.ValueRanges.{bandsRange, keysRange, keysIn, rangeIn, rangeRefusal, totalValueRange};
+ghost use Rattle.legend_range.specs.ValueRanges.{bandsRange, keysRange, keysIn, rangeIn, totalRangeRefusal, totalValueRange};
 
 // The whole range of a legend's values.
 pub enum TotalRange {
@@ -23,15 +23,15 @@ pub enum TotalRange {
 pub fn total_value_range(legend: Legend) -> TotalRange
     ensures { λ r. ⌜ r ≡ totalValueRange legend ⌝ }
 {
-    match range_refusal(legend) {
+    match total_range_refusal(legend) {
         Answer::Refused(why) => TotalRange::Refused(why),
         Answer::Done => TotalRange::Range(range_of(legend)),
     }
 }
 
 // 16, then 17 for a stored key.
-pub fn range_refusal(legend: Legend) -> Answer
-    ensures { λ r. ⌜ r ≡ rangeRefusal legend ⌝ }
+pub fn total_range_refusal(legend: Legend) -> Answer
+    ensures { λ r. ⌜ r ≡ totalRangeRefusal legend ⌝ }
 {
     match legend.stored_refusal() {
         Answer::Refused(why) => Answer::Refused(why),
@@ -57,7 +57,7 @@ fn key_refusal(legend: Legend) -> Answer
 
 // The range of a legend that is not refused.
 pub fn range_of(legend: Legend) -> ValueRange
-    requires { ⌜ rangeRefusal legend ≡ Done ⌝ }
+    requires { ⌜ totalRangeRefusal legend ≡ Done ⌝ }
     ensures { λ r. ⌜ r ≡ rangeIn (legend .kind) legend ⌝ }
 {
     let linear = legend.linear;

@@ -12,7 +12,7 @@ use Rattle.painting.specs.Painted.{plainPainted, lanePainted}
 use Rattle.painting.specs.Contracts.{Painter}
 use Rattle.painting.proofs.Splitting.{lane-split, length-painted}
 use Rattle.painting.proofs.Blocks.{Splits}
-use Rattle.legend_paint.specs.PlainOrLanes.{painted, plainOrLanes}
+use Rattle.legend_paint.specs.forms.PlainOrLanes.{painted, plainOrLanes}
 use Rattle.legend_paint.proofs.Lanes.{lanes-count}
 
 module _ (p : Painter) (chunk-long : (c : List Float) → length (p .chunk c) ≡ length c) where

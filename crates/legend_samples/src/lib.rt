@@ -1,7 +1,7 @@
 // Painting samples that are u8 or i16 by a legend of any kind: they are turned into f32 by blocks of 256. Plainly with 0 lanes, else in
 // lanes. The refusals are the caller's.
 use cast::Nodata;
-use legend_view::Head;
+use legend_view::View;
 ghost use mathlib.Core.Path.{_≡_};
 ghost use mathlib.Core.Bool.{true};
 ghost use mathlib.Core.List.{map, _++_};
@@ -11,8 +11,8 @@ ghost use Rattle.refusal.specs.declared.Answer.the-variants.{Done};
 ghost use Rattle.cast.specs.Samples.{ofU8, ofI16};
 ghost use Rattle.legend.specs.Record.{storedRefusal};
 ghost use Rattle.legend.specs.Painters.{painter};
-ghost use Rattle.legend_view.specs.Lent.{lentLegend};
-ghost use Rattle.legend_paint.specs.PlainOrLanes.{painted, plainOrLanes};
+ghost use Rattle.legend_view.specs.Borrowed.{borrowedLegend};
+ghost use Rattle.legend_paint.specs.forms.PlainOrLanes.{painted, plainOrLanes};
 
 // ---- samples that are u8
 
@@ -33,7 +33,7 @@ fn f32_of_u8(src: &[u8]) -> [f32; 256]
 
 // The samples from one place to another, at most 256.
 fn block_u8(
-    head: Head,
+    view: View,
     cmap: &[u32; 256],
     keys: &[i64; 256],
     colors: &[u32; 256],
@@ -45,18 +45,18 @@ fn block_u8(
     to: usize,
     out: &mut [u32],
 )
-    requires { ⌜ (storedRefusal (lentLegend head (now cmap) (now keys) (now colors) (now lookup)) ≡ Done) × (plainOrLanes lanes ≡ true) × (from ≤ to) × (to ≤ from + 256) × (to ≤ length (now src)) × (length (now out) ≡ length (now src)) ⌝ }
-    ensures { λ _. ⌜ now (out .exit) ≡ take from (now (out .entry)) ++ painted (painter (lentLegend head (now (cmap .entry)) (now (keys .entry)) (now (colors .entry)) (now (lookup .entry))) nodata) lanes (take (to - from) (drop from (map ofU8 (now (src .entry))))) ++ drop to (now (out .entry)) ⌝ }
+    requires { ⌜ (storedRefusal (borrowedLegend view (now cmap) (now keys) (now colors) (now lookup)) ≡ Done) × (plainOrLanes lanes ≡ true) × (from ≤ to) × (to ≤ from + 256) × (to ≤ length (now src)) × (length (now out) ≡ length (now src)) ⌝ }
+    ensures { λ _. ⌜ now (out .exit) ≡ take from (now (out .entry)) ++ painted (painter (borrowedLegend view (now (cmap .entry)) (now (keys .entry)) (now (colors .entry)) (now (lookup .entry))) nodata) lanes (take (to - from) (drop from (map ofU8 (now (src .entry))))) ++ drop to (now (out .entry)) ⌝ }
 {
     let samples = f32_of_u8(&src[from..to]);
     let count = to - from;
     let part = &samples[..count];
     let place = &mut out[from..to];
-    legend_paint::paint_simd(head, cmap, keys, colors, lookup, nodata, lanes, part, place);
+    legend_paint::paint_simd(view, cmap, keys, colors, lookup, nodata, lanes, part, place);
 }
 
 pub fn paint_u8(
-    head: Head,
+    view: View,
     cmap: &[u32; 256],
     keys: &[i64; 256],
     colors: &[u32; 256],
@@ -66,15 +66,15 @@ pub fn paint_u8(
     src: &[u8],
     out: &mut [u32],
 )
-    requires { ⌜ (storedRefusal (lentLegend head (now cmap) (now keys) (now colors) (now lookup)) ≡ Done) × (plainOrLanes lanes ≡ true) × (length (now out) ≡ length (now src)) ⌝ }
-    ensures { λ _. ⌜ now (out .exit) ≡ painted (painter (lentLegend head (now (cmap .entry)) (now (keys .entry)) (now (colors .entry)) (now (lookup .entry))) nodata) lanes (map ofU8 (now (src .entry))) ⌝ }
+    requires { ⌜ (storedRefusal (borrowedLegend view (now cmap) (now keys) (now colors) (now lookup)) ≡ Done) × (plainOrLanes lanes ≡ true) × (length (now out) ≡ length (now src)) ⌝ }
+    ensures { λ _. ⌜ now (out .exit) ≡ painted (painter (borrowedLegend view (now (cmap .entry)) (now (keys .entry)) (now (colors .entry)) (now (lookup .entry))) nodata) lanes (map ofU8 (now (src .entry))) ⌝ }
 {
     let n = src.len();
     let mut base: usize = 0;
     while 256 <= n - base {
         let next = base + 256;
         block_u8(
-            head,
+            view,
             cmap,
             keys,
             colors,
@@ -89,7 +89,7 @@ pub fn paint_u8(
         base = next;
     }
     block_u8(
-        head,
+        view,
         cmap,
         keys,
         colors,
@@ -122,7 +122,7 @@ fn f32_of_i16(src: &[i16]) -> [f32; 256]
 
 // The samples from one place to another, at most 256.
 fn block_i16(
-    head: Head,
+    view: View,
     cmap: &[u32; 256],
     keys: &[i64; 256],
     colors: &[u32; 256],
@@ -134,18 +134,18 @@ fn block_i16(
     to: usize,
     out: &mut [u32],
 )
-    requires { ⌜ (storedRefusal (lentLegend head (now cmap) (now keys) (now colors) (now lookup)) ≡ Done) × (plainOrLanes lanes ≡ true) × (from ≤ to) × (to ≤ from + 256) × (to ≤ length (now src)) × (length (now out) ≡ length (now src)) ⌝ }
-    ensures { λ _. ⌜ now (out .exit) ≡ take from (now (out .entry)) ++ painted (painter (lentLegend head (now (cmap .entry)) (now (keys .entry)) (now (colors .entry)) (now (lookup .entry))) nodata) lanes (take (to - from) (drop from (map ofI16 (now (src .entry))))) ++ drop to (now (out .entry)) ⌝ }
+    requires { ⌜ (storedRefusal (borrowedLegend view (now cmap) (now keys) (now colors) (now lookup)) ≡ Done) × (plainOrLanes lanes ≡ true) × (from ≤ to) × (to ≤ from + 256) × (to ≤ length (now src)) × (length (now out) ≡ length (now src)) ⌝ }
+    ensures { λ _. ⌜ now (out .exit) ≡ take from (now (out .entry)) ++ painted (painter (borrowedLegend view (now (cmap .entry)) (now (keys .entry)) (now (colors .entry)) (now (lookup .entry))) nodata) lanes (take (to - from) (drop from (map ofI16 (now (src .entry))))) ++ drop to (now (out .entry)) ⌝ }
 {
     let samples = f32_of_i16(&src[from..to]);
     let count = to - from;
     let part = &samples[..count];
     let place = &mut out[from..to];
-    legend_paint::paint_simd(head, cmap, keys, colors, lookup, nodata, lanes, part, place);
+    legend_paint::paint_simd(view, cmap, keys, colors, lookup, nodata, lanes, part, place);
 }
 
 pub fn paint_i16(
-    head: Head,
+    view: View,
     cmap: &[u32; 256],
     keys: &[i64; 256],
     colors: &[u32; 256],
@@ -155,15 +155,15 @@ pub fn paint_i16(
     src: &[i16],
     out: &mut [u32],
 )
-    requires { ⌜ (storedRefusal (lentLegend head (now cmap) (now keys) (now colors) (now lookup)) ≡ Done) × (plainOrLanes lanes ≡ true) × (length (now out) ≡ length (now src)) ⌝ }
-    ensures { λ _. ⌜ now (out .exit) ≡ painted (painter (lentLegend head (now (cmap .entry)) (now (keys .entry)) (now (colors .entry)) (now (lookup .entry))) nodata) lanes (map ofI16 (now (src .entry))) ⌝ }
+    requires { ⌜ (storedRefusal (borrowedLegend view (now cmap) (now keys) (now colors) (now lookup)) ≡ Done) × (plainOrLanes lanes ≡ true) × (length (now out) ≡ length (now src)) ⌝ }
+    ensures { λ _. ⌜ now (out .exit) ≡ painted (painter (borrowedLegend view (now (cmap .entry)) (now (keys .entry)) (now (colors .entry)) (now (lookup .entry))) nodata) lanes (map ofI16 (now (src .entry))) ⌝ }
 {
     let n = src.len();
     let mut base: usize = 0;
     while 256 <= n - base {
         let next = base + 256;
         block_i16(
-            head,
+            view,
             cmap,
             keys,
             colors,
@@ -178,7 +178,7 @@ pub fn paint_i16(
         base = next;
     }
     block_i16(
-        head,
+        view,
         cmap,
         keys,
         colors,

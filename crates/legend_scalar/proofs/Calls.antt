@@ -15,7 +15,7 @@ use Rattle.legend.specs.declared.Legend.{Legend}
 use Rattle.legend.specs.Record.{storedRefusal}
 use Rattle.legend.specs.Painters.{painter}
 use Rattle.legend.proofs.AnyKind.{stored-is}
-use Rattle.legend_paint.specs.PlainOrLanes.{painted}
+use Rattle.legend_paint.specs.forms.PlainOrLanes.{painted}
 
 module _ (l : Legend) (nodata : Nodata) (xs : List Float) (out : List ℕ) (n : ℕ) (m : n ≡ length xs) (s a : Answer) (stored : s ≡ storedRefusal l) where
   abbrev p : Painter

@@ -2,17 +2,17 @@
 use cast::Nodata;
 use cast::NodataI16;
 use cast::NodataU8;
-use legend_view::Head;
+use legend_view::View;
 use refusal::Answer;
 ghost use mathlib.Core.List.{map};
 ghost use Rattle.cast.specs.Samples.{ofU8, ofI16};
 ghost use Rattle.cast.specs.Nodata.{nodataU8, nodataI16};
 ghost use Rattle.painting.specs.Contracts.{PlainPainting};
 ghost use Rattle.legend.specs.Painters.{painter};
-ghost use Rattle.legend_view.specs.Lent.{lentLegend};
+ghost use Rattle.legend_view.specs.Borrowed.{borrowedLegend};
 
 pub fn apply_to_data_scalar(
-    head: Head,
+    view: View,
     cmap: &[u32; 256],
     keys: &[i64; 256],
     colors: &[u32; 256],
@@ -21,18 +21,18 @@ pub fn apply_to_data_scalar(
     nodata: Nodata,
     out: &mut [u32],
 ) -> Answer
-    ensures { λ r. ⌜ PlainPainting (painter (lentLegend head (now (cmap .entry)) (now (keys .entry)) (now (colors .entry)) (now (lookup .entry))) nodata) (now (src .entry)) (now (out .entry)) r (now (out .exit)) ⌝ }
+    ensures { λ r. ⌜ PlainPainting (painter (borrowedLegend view (now (cmap .entry)) (now (keys .entry)) (now (colors .entry)) (now (lookup .entry))) nodata) (now (src .entry)) (now (out .entry)) r (now (out .exit)) ⌝ }
 {
-    let answer = painting::plain_refusal(head.stored_refusal(), src.len(), out.len());
+    let answer = painting::plain_refusal(view.stored_refusal(), src.len(), out.len());
     if let Answer::Refused(_) = answer {
         return answer;
     }
-    legend_paint::paint(head, cmap, keys, colors, lookup, nodata, src, out);
+    legend_paint::paint(view, cmap, keys, colors, lookup, nodata, src, out);
     answer
 }
 
 pub fn apply_to_data_scalar_u8(
-    head: Head,
+    view: View,
     cmap: &[u32; 256],
     keys: &[i64; 256],
     colors: &[u32; 256],
@@ -41,19 +41,19 @@ pub fn apply_to_data_scalar_u8(
     nodata: NodataU8,
     out: &mut [u32],
 ) -> Answer
-    ensures { λ r. ⌜ PlainPainting (painter (lentLegend head (now (cmap .entry)) (now (keys .entry)) (now (colors .entry)) (now (lookup .entry))) (nodataU8 nodata)) (map ofU8 (now (src .entry))) (now (out .entry)) r (now (out .exit)) ⌝ }
+    ensures { λ r. ⌜ PlainPainting (painter (borrowedLegend view (now (cmap .entry)) (now (keys .entry)) (now (colors .entry)) (now (lookup .entry))) (nodataU8 nodata)) (map ofU8 (now (src .entry))) (now (out .entry)) r (now (out .exit)) ⌝ }
 {
-    let answer = painting::plain_refusal(head.stored_refusal(), src.len(), out.len());
+    let answer = painting::plain_refusal(view.stored_refusal(), src.len(), out.len());
     if let Answer::Refused(_) = answer {
         return answer;
     }
     let value = cast::option_u8(nodata);
-    legend_samples::paint_u8(head, cmap, keys, colors, lookup, value, 0, src, out);
+    legend_samples::paint_u8(view, cmap, keys, colors, lookup, value, 0, src, out);
     answer
 }
 
 pub fn apply_to_data_scalar_i16(
-    head: Head,
+    view: View,
     cmap: &[u32; 256],
     keys: &[i64; 256],
     colors: &[u32; 256],
@@ -62,13 +62,13 @@ pub fn apply_to_data_scalar_i16(
     nodata: NodataI16,
     out: &mut [u32],
 ) -> Answer
-    ensures { λ r. ⌜ PlainPainting (painter (lentLegend head (now (cmap .entry)) (now (keys .entry)) (now (colors .entry)) (now (lookup .entry))) (nodataI16 nodata)) (map ofI16 (now (src .entry))) (now (out .entry)) r (now (out .exit)) ⌝ }
+    ensures { λ r. ⌜ PlainPainting (painter (borrowedLegend view (now (cmap .entry)) (now (keys .entry)) (now (colors .entry)) (now (lookup .entry))) (nodataI16 nodata)) (map ofI16 (now (src .entry))) (now (out .entry)) r (now (out .exit)) ⌝ }
 {
-    let answer = painting::plain_refusal(head.stored_refusal(), src.len(), out.len());
+    let answer = painting::plain_refusal(view.stored_refusal(), src.len(), out.len());
     if let Answer::Refused(_) = answer {
         return answer;
     }
     let value = cast::option_i16(nodata);
-    legend_samples::paint_i16(head, cmap, keys, colors, lookup, value, 0, src, out);
+    legend_samples::paint_i16(view, cmap, keys, colors, lookup, value, 0, src, out);
     answer
 }

@@ -9,10 +9,10 @@ ghost use mathlib.Core.List.{List};
 ghost use Prim.Native.Nat.{ℕ};
 ghost use lib.IntN.{ℤ};
 ghost use Rattle.legend.specs.Record.{storedRefusal, simdSupported};
-ghost use Rattle.legend_view.specs.Lent.{lentLegend, headOf};
+ghost use Rattle.legend_view.specs.Borrowed.{borrowedLegend, viewOf};
 
 // A legend without its ramp, its keys with their colours, and its table. The bands stay: an array of structs cannot be lent.
-pub struct Head {
+pub struct View {
     pub kind: LegendKind,
     pub start: f32,
     pub end: f32,
@@ -22,10 +22,10 @@ pub struct Head {
     pub mapping_config: MappingConfig,
 }
 
-impl Head {
+impl View {
     // 16: what the stored record of the legend's kind is refused by, whatever the arrays hold.
     pub fn stored_refusal(self) -> Answer
-        ensures { λ r. ⌜ ((cmap : List ℕ) (keys : List ℤ) (colors lookup : List ℕ) → r ≡ storedRefusal (lentLegend self cmap keys colors lookup)) ⌝ }
+        ensures { λ r. ⌜ ((cmap : List ℕ) (keys : List ℤ) (colors lookup : List ℕ) → r ≡ storedRefusal (borrowedLegend self cmap keys colors lookup)) ⌝ }
     {
         let banded = self.banded;
         let kind = self.kind;
@@ -40,7 +40,7 @@ impl Head {
 
     // Whether lanes have a rule of their own, whatever the arrays hold.
     pub fn simd_supported(self) -> bool
-        ensures { λ r. ⌜ ((cmap : List ℕ) (keys : List ℤ) (colors lookup : List ℕ) → r ≡ simdSupported (lentLegend self cmap keys colors lookup)) ⌝ }
+        ensures { λ r. ⌜ ((cmap : List ℕ) (keys : List ℤ) (colors lookup : List ℕ) → r ≡ simdSupported (borrowedLegend self cmap keys colors lookup)) ⌝ }
     {
         let kind = self.kind;
         match kind {
@@ -52,15 +52,15 @@ impl Head {
 }
 
 // The head of a legend that is there by value.
-pub fn head_of(legend: Legend) -> Head
-    ensures { λ r. ⌜ r ≡ headOf legend ⌝ }
+pub fn view_of(legend: Legend) -> View
+    ensures { λ r. ⌜ r ≡ viewOf legend ⌝ }
 {
     let linear = legend.linear;
     let banded = legend.banded;
     let categoric = legend.categoric;
     let kind = legend.kind;
     let config = legend.mapping_config;
-    Head {
+    View {
         kind,
         start: linear.start,
         end: linear.end,

@@ -11,7 +11,7 @@ use Rattle.painting.proofs.Lists.{lanes-list}
 use Rattle.painting.proofs.Masking.{masked-map}
 use Rattle.linear_rule.specs.Rule.{laneColor}
 use Rattle.linear_paint.specs.declared.LinearPaint.{LinearPaint}
-use Rattle.linear_paint.specs.Rules.{laneSample, laneChunk}
+use Rattle.linear_paint.specs.forms.Samples.{laneSample, laneChunk}
 
 pub lane-words : (l : ℕ) (cmap : List ℕ) (p : LinearPaint) (v : List Float) (d : List ℕ) → l ≤ length v → l ≤ length d
     → LanesOf 0 l (λ k. laneSample cmap p (getD v k nan)) d → take l d ≡ laneChunk cmap p (take l v)

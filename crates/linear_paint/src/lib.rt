@@ -10,7 +10,7 @@ ghost use lib.ListN.{length, getD, take, drop};
 ghost use Rattle.lists.specs.Lanes.{LanesOf};
 ghost use Rattle.painting.specs.Painted.{plainPainted, lanePainted, chunkOver};
 ghost use Rattle.painting.specs.Contracts.{laneCount};
-ghost use Rattle.linear_paint.specs.Rules.{plainSample, laneSample, laneChunk};
+ghost use Rattle.linear_paint.specs.forms.Samples.{plainSample, laneSample, laneChunk};
 
 // What a linear legend is painted by, beside its ramp.
 pub struct LinearPaint {

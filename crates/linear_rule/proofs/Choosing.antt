@@ -11,23 +11,23 @@ use Rattle.lookup.specs.Entries.{plainEntry, laneEntry, entryColor}
 use Rattle.colormapper.specs.declared.UnmappableColors.{UnmappableColors}
 use Rattle.colormapper.specs.Tolerance.{E}
 use Rattle.colormapper.specs.Rule.{low, high, ruleColor}
-use Rattle.linear_rule.specs.Rule.{byRange, looked, ranged, plainRule, laneRule, linearRuleColors, plainColor, laneColor}
+use Rattle.linear_rule.specs.Rule.{byRange, entryRule, ruleInRange, plainRule, laneRule, linearRuleColors, plainColor, laneColor}
 
 module _ (cmap : List ℕ) (start end : Float) (u : UnmappableColors) (v : Float) where
-  chosen : (entry : Entry) → byRange start end v (u .low) (u .high) (entryColor cmap entry) ≡ ruleColor (linearRuleColors cmap u) (ranged start end v entry)
+  chosen : (entry : Entry) → byRange start end v (u .low) (u .high) (entryColor cmap entry) ≡ ruleColor (linearRuleColors cmap u) (ruleInRange start end v entry)
   chosen entry = go (lt v (sub binary32 start E)) (lt (add binary32 end E) v)
     where
-      found : (entry : Entry) → entryColor cmap entry ≡ ruleColor (linearRuleColors cmap u) (looked entry)
+      found : (entry : Entry) → entryColor cmap entry ≡ ruleColor (linearRuleColors cmap u) (entryRule entry)
       found (At k) = refl
       found Outside = refl
 
-      go : (b a : Bool) → cond b (u .low) (cond a (u .high) (entryColor cmap entry)) ≡ ruleColor (linearRuleColors cmap u) (cond b low (cond a high (looked entry)))
+      go : (b a : Bool) → cond b (u .low) (cond a (u .high) (entryColor cmap entry)) ≡ ruleColor (linearRuleColors cmap u) (cond b low (cond a high (entryRule entry)))
       go true a = refl
       go false true = refl
       go false false = found entry
 
   -- in phases: the fraction f, the colour that is looked up for it, and the range
-  phases : (rule : Float → Entry) {f g : Float} {color r : ℕ} → f ≡ g → color ≡ entryColor cmap (rule f) → r ≡ byRange start end v (u .low) (u .high) color → r ≡ ruleColor (linearRuleColors cmap u) (ranged start end v (rule g))
+  phases : (rule : Float → Entry) {f g : Float} {color r : ℕ} → f ≡ g → color ≡ entryColor cmap (rule f) → r ≡ byRange start end v (u .low) (u .high) color → r ≡ ruleColor (linearRuleColors cmap u) (ruleInRange start end v (rule g))
   phases rule {f} {g} p q s = s ∙ ap (byRange start end v (u .low) (u .high)) (q ∙ ap (λ x. entryColor cmap (rule x)) p) ∙ chosen (rule g)
 
   module _ {f : Float} {color r : ℕ} where

@@ -20,8 +20,8 @@ use Rattle.lookup.specs.Entries.{plainEntry, laneEntry}
 use Rattle.colormapper.specs.declared.UnmappableColors.{UnmappableColors}
 use Rattle.colormapper.specs.Tolerance.{E}
 use Rattle.colormapper.specs.Rule.{rampEntry, ruleColor}
-use Rattle.linear_rule.specs.Rule.{looked, ranged, plainRule, laneRule, linearRuleColors, plainColor, laneColor}
-use Rattle.linear_rule.specs.Odd.{OddFraction}
+use Rattle.linear_rule.specs.Rule.{entryRule, ruleInRange, plainRule, laneRule, linearRuleColors, plainColor, laneColor}
+use Rattle.linear_rule.specs.Exception.{ExceptionFraction}
 use Rattle.linear_rule.proofs.Inside.{inside}
 
 -- ---- the two lookups of one fraction
@@ -60,22 +60,22 @@ fraction-same start end v ordered = rw ordered
 module _ (start end v : Float) (ordered : lt end start ≡ false) where
   pub rule-same : toBits binary32 (fraction start end v) ≢ 0x3B00_8080 → laneRule start end v ≡ plainRule start end v
   unfolding laneRule plainRule
-  rule-same n = ap (ranged start end v) (entry-same (fraction start end v) (fraction-fits start end v) n ∙ ap plainEntry (sym (fraction-same start end v ordered)))
+  rule-same n = ap (ruleInRange start end v) (entry-same (fraction start end v) (fraction-fits start end v) n ∙ ap plainEntry (sym (fraction-same start end v ordered)))
 
   pub color-same : (cmap : List ℕ) (u : UnmappableColors) → toBits binary32 (fraction start end v) ≢ 0x3B00_8080 → laneColor cmap start end u v ≡ plainColor cmap start end u v
   unfolding laneColor plainColor
   color-same cmap u n = ap (ruleColor (linearRuleColors cmap u)) (rule-same n)
 
   module _ (bits : toBits binary32 (fraction start end v) ≡ 0x3B00_8080) (within : (lt v (sub binary32 start E) ≡ false) × (lt (add binary32 end E) v ≡ false)) where
-    in-range : (entry : Entry) → ranged start end v entry ≡ looked entry
+    in-range : (entry : Entry) → ruleInRange start end v entry ≡ entryRule entry
     in-range entry = rw (within .0, within .1)
 
     pub rule-differs : (laneRule start end v ≡ rampEntry 1) × (plainRule start end v ≡ rampEntry 0)
     unfolding laneRule plainRule
     rule-differs =
         let d = entry-differs (fraction start end v) (fraction-fits start end v) bits in (
-          in-range (laneEntry (fraction start end v)) ∙ ap looked (d .0),
-          in-range (plainEntry (plainFraction start end v)) ∙ ap looked (ap plainEntry (fraction-same start end v ordered) ∙ d .1),
+          in-range (laneEntry (fraction start end v)) ∙ ap entryRule (d .0),
+          in-range (plainEntry (plainFraction start end v)) ∙ ap entryRule (ap plainEntry (fraction-same start end v ordered) ∙ d .1),
         )
 
     pub color-differs : (cmap : List ℕ) (u : UnmappableColors) → (laneColor cmap start end u v ≡ getD cmap 1 0) × (plainColor cmap start end u v ≡ getD cmap 0 0)
@@ -83,14 +83,14 @@ module _ (start end v : Float) (ordered : lt end start ≡ false) where
     color-differs cmap u = (ap (ruleColor (linearRuleColors cmap u)) (rule-differs .0), ap (ruleColor (linearRuleColors cmap u)) (rule-differs .1))
 
   -- THE LAW: the two colours are one, but at that fraction
-  pub lane-law : (cmap : List ℕ) (u : UnmappableColors) → (laneColor cmap start end u v ≡ plainColor cmap start end u v) ⊎ OddFraction start end v
+  pub lane-law : (cmap : List ℕ) (u : UnmappableColors) → (laneColor cmap start end u v ≡ plainColor cmap start end u v) ⊎ ExceptionFraction start end v
   lane-law cmap u = go (eqb (toBits binary32 (fraction start end v)) 0x3B00_8080) refl
     where
-      go : (b : Bool) → eqb (toBits binary32 (fraction start end v)) 0x3B00_8080 ≡ b → (laneColor cmap start end u v ≡ plainColor cmap start end u v) ⊎ OddFraction start end v
+      go : (b : Bool) → eqb (toBits binary32 (fraction start end v)) 0x3B00_8080 ≡ b → (laneColor cmap start end u v ≡ plainColor cmap start end u v) ⊎ ExceptionFraction start end v
       go true e = inr (eqb-true (toBits binary32 (fraction start end v)) 0x3B00_8080 e)
       go false e = inl (color-same cmap u (eqb-false (toBits binary32 (fraction start end v)) 0x3B00_8080 e))
 
   -- there they are entry 1 and entry 0, for bounds that are f32s, as a record's are: a sample of that fraction is then neither low nor high
-  pub odd-law : (cmap : List ℕ) (u : UnmappableColors) → T (fits binary32 start) → T (fits binary32 end) → OddFraction start end v
+  pub odd-law : (cmap : List ℕ) (u : UnmappableColors) → T (fits binary32 start) → T (fits binary32 end) → ExceptionFraction start end v
       → (laneColor cmap start end u v ≡ getD cmap 1 0) × (plainColor cmap start end u v ≡ getD cmap 0 0)
   odd-law cmap u f g b = color-differs b (inside start end v f g b) cmap u

@@ -16,19 +16,19 @@ abbrev pub byRange : {A : Type 0} → (start end v : Float) → A → A → A �
 byRange start end v x y z = cond (lt v (sub binary32 start E)) x (cond (lt (add binary32 end E) v) y z)
 
 -- what the fraction is looked up as
-abbrev pub looked : Entry → Rule
-looked (At k) = rampEntry k
-looked Outside = rampOutside
+abbrev pub entryRule : Entry → Rule
+entryRule (At k) = rampEntry k
+entryRule Outside = rampOutside
 
-abbrev pub ranged : (start end v : Float) → Entry → Rule
-ranged start end v entry = byRange start end v low high (looked entry)
+abbrev pub ruleInRange : (start end v : Float) → Entry → Rule
+ruleInRange start end v entry = byRange start end v low high (entryRule entry)
 
 unfoldable pub plainRule : (start end v : Float) → Rule
-plainRule start end v = ranged start end v (plainEntry (plainFraction start end v))
+plainRule start end v = ruleInRange start end v (plainEntry (plainFraction start end v))
 
 -- in lanes it is not tested whether the start is above the end, and the entry is the lanes'
 unfoldable pub laneRule : (start end v : Float) → Rule
-laneRule start end v = ranged start end v (laneEntry (fraction start end v))
+laneRule start end v = ruleInRange start end v (laneEntry (fraction start end v))
 
 -- the colours are the ramp's and those of the settings
 abbrev pub linearRuleColors : (cmap : List ℕ) → UnmappableColors → RuleColors

@@ -10,7 +10,7 @@ use Rattle.floats.specs.RampIndex.{c255, nought, one, halfUp, inUnit, plainInde
 use Rattle.floats.proofs.RampBounds.{plain-is}
 use Rattle.lookup.specs.declared.Entry.{Entry}
 use Rattle.lookup.specs.declared.Entry.the-variants.{At, Outside}
-use Rattle.lookup.specs.Entries.{plainEntry, laneEntry, entryColor, kept}
+use Rattle.lookup.specs.Entries.{plainEntry, laneEntry, entryColor, unitOrZero}
 
 pub holds : {b : Bool} → b ≡ true → T b
 holds e = subst T (sym e) tt
@@ -46,27 +46,27 @@ module _ (f : Float) where
   unfolding laneEntry
   lane-outside h = rw h
 
-  pub kept-inside : inUnit f ≡ true → f ≡ kept f
-  unfolding kept
+  pub kept-inside : inUnit f ≡ true → f ≡ unitOrZero f
+  unfolding unitOrZero
   kept-inside h = rw h
 
-  pub kept-outside : inUnit f ≡ false → nought ≡ kept f
-  unfolding kept
+  pub kept-outside : inUnit f ≡ false → nought ≡ unitOrZero f
+  unfolding unitOrZero
   kept-outside h = rw h
 
   -- a colour looked up first and replaced outside
-  chosen : (cmap : List ℕ) (index : Float → ℕ) → cond (inUnit f) (getD cmap (index (kept f)) 0) 0 ≡ entryColor cmap (cond (inUnit f) (At (index f)) Outside)
-  unfolding kept
+  chosen : (cmap : List ℕ) (index : Float → ℕ) → cond (inUnit f) (getD cmap (index (unitOrZero f)) 0) 0 ≡ entryColor cmap (cond (inUnit f) (At (index f)) Outside)
+  unfolding unitOrZero
   chosen cmap index = go (inUnit f)
     where
       go : (b : Bool) → cond b (getD cmap (index (cond b f nought)) 0) 0 ≡ entryColor cmap (cond b (At (index f)) Outside)
       go true = refl
       go false = refl
 
-  pub plain-chosen : (cmap : List ℕ) → cond (inUnit f) (getD cmap (plainIndex (kept f)) 0) 0 ≡ entryColor cmap (plainEntry f)
+  pub plain-chosen : (cmap : List ℕ) → cond (inUnit f) (getD cmap (plainIndex (unitOrZero f)) 0) 0 ≡ entryColor cmap (plainEntry f)
   unfolding plainEntry
   plain-chosen cmap = chosen cmap plainIndex
 
-  pub lane-chosen : (cmap : List ℕ) → cond (inUnit f) (getD cmap (laneIndex (kept f)) 0) 0 ≡ entryColor cmap (laneEntry f)
+  pub lane-chosen : (cmap : List ℕ) → cond (inUnit f) (getD cmap (laneIndex (unitOrZero f)) 0) 0 ≡ entryColor cmap (laneEntry f)
   unfolding laneEntry
   lane-chosen cmap = chosen cmap laneIndex

@@ -23,5 +23,5 @@ entryColor cmap (At k) = getD cmap k 0
 entryColor cmap Outside = wordOf transparent
 
 -- the fraction itself from 0 to 1, else 0: what the code looks up before it decides
-unfoldable pub kept : Float → Float
-kept f = cond (inUnit f) f nought
+unfoldable pub unitOrZero : Float → Float
+unitOrZero f = cond (inUnit f) f nought

@@ -7,7 +7,7 @@ ghost use lib.Ieee.{nan};
 ghost use lib.ListN.{getD};
 ghost use Rattle.floats.specs.RampIndex.{inUnit, laneIndex};
 ghost use Rattle.lists.specs.Lanes.{LanesOf};
-ghost use Rattle.lookup.specs.Entries.{plainEntry, laneEntry, entryColor, kept};
+ghost use Rattle.lookup.specs.Entries.{plainEntry, laneEntry, entryColor, unitOrZero};
 
 // What a fraction is looked up as.
 pub enum Entry {
@@ -44,7 +44,7 @@ pub fn get_color(cmap: &[u32; 256], fraction: f32) -> u32
     ensures { λ r. ⌜ r ≡ entryColor (now (cmap .entry)) (plainEntry fraction) ⌝ }
 {
     let transparent = Color::TRANSPARENT.to_bits();
-    let index = round::nearest(unit(fraction) * 255.0);
+    let index = round::nearest(unit_or_zero(fraction) * 255.0);
     select::pick(in_unit(fraction), cmap[index], transparent)
 }
 
@@ -55,18 +55,18 @@ pub fn get_color_simd(lanes: usize, cmap: &[u32; 256], fraction: [f32; 16]) -> [
     ensures { λ r. ⌜ LanesOf 0 lanes (λ k. entryColor (now (cmap .entry)) (laneEntry (getD fraction k nan))) r ⌝ }
 {
     let gathered = gather(lanes, cmap, fraction);
-    mappable(lanes, fraction, gathered)
+    mask_outside(lanes, fraction, gathered)
 }
 
 // Each lane's entry, that of 0 for a fraction outside.
 fn gather(lanes: usize, cmap: &[u32; 256], fraction: [f32; 16]) -> [u32; 16]
     requires { ⌜ lanes ≤ 16 ⌝ }
-    ensures { λ r. ⌜ LanesOf 0 lanes (λ k. getD (now (cmap .entry)) (laneIndex (kept (getD fraction k nan))) 0) r ⌝ }
+    ensures { λ r. ⌜ LanesOf 0 lanes (λ k. getD (now (cmap .entry)) (laneIndex (unitOrZero (getD fraction k nan))) 0) r ⌝ }
 {
     let mut result = [0u32; 16];
     let mut i: usize = 0;
     while i < lanes {
-        let index = lane_index(unit(fraction[i]));
+        let index = lane_index(unit_or_zero(fraction[i]));
         result[i] = cmap[index];
         i += 1;
     }
@@ -87,7 +87,7 @@ pub fn get_colors(cmap: &[u32; 256], fraction: [f32; 16]) -> [u32; 16]
 }
 
 // The colours of the fractions from 0 to 1, TRANSPARENT for others.
-fn mappable(lanes: usize, fraction: [f32; 16], colors: [u32; 16]) -> [u32; 16]
+fn mask_outside(lanes: usize, fraction: [f32; 16], colors: [u32; 16]) -> [u32; 16]
     requires { ⌜ lanes ≤ 16 ⌝ }
     ensures { λ r. ⌜ LanesOf 0 lanes (λ k. cond (inUnit (getD fraction k nan)) (getD colors k 0) 0) r ⌝ }
 {
@@ -109,8 +109,8 @@ fn in_unit(fraction: f32) -> bool
 }
 
 // The fraction itself from 0 to 1, else 0.
-fn unit(fraction: f32) -> f32
-    ensures { λ r. ⌜ (r ≡ kept fraction) × (inUnit r ≡ true) ⌝ }
+fn unit_or_zero(fraction: f32) -> f32
+    ensures { λ r. ⌜ (r ≡ unitOrZero fraction) × (inUnit r ≡ true) ⌝ }
 {
     if fraction >= 0.0 {
         if fraction <= 1.0 {

@@ -54,30 +54,30 @@ module _ (L : ℕ) (chunk : List Float → List ℕ) (plain : Float → ℕ) (t 
 
   -- k chunks, then the rest plainly
   same-chunked : (k : ℕ) (xs : List Float) → k * L ≤ length xs → (i : ℕ) → i < length xs
-      → (getD (chunked k L chunk plain xs) i 0 ≡ plain (getD xs i nan)) ⊎ ((i < k * L) × t .Odd (getD xs i nan))
+      → (getD (chunked k L chunk plain xs) i 0 ≡ plain (getD xs i nan)) ⊎ ((i < k * L) × t .RoundingException (getD xs i nan))
   unfolding chunked
   same-chunked zero xs h i l = inl (sym (getD-map-in plain xs i nan 0 l))
   same-chunked (suc k) xs h i l = ⊎-elim
       (λ (b : i < L).
       let at = in-first-chunk k xs h i b in
-      ⊎-elim (λ e. inl (at .0 ∙ e ∙ ap plain (at .1))) (λ o. inr (omega (arith, more k xs h), subst (t .Odd) (at .1) o)) (law .lane (first k xs h) (first-long k xs h) i b))
+      ⊎-elim (λ e. inl (at .0 ∙ e ∙ ap plain (at .1))) (λ o. inr (omega (arith, more k xs h), subst (t .RoundingException) (at .1) o)) (law .lane (first k xs h) (first-long k xs h) i b))
       (λ (b : L ≤ i).
       let at = in-later-chunk k xs h i b in
-      ⊎-elim (λ e. inl (at .0 ∙ e ∙ ap plain (at .1))) (λ o. inr (omega (arith, more k xs h), subst (t .Odd) (at .1) (o .1)))
+      ⊎-elim (λ e. inl (at .0 ∙ e ∙ ap plain (at .1))) (λ o. inr (omega (arith, more k xs h), subst (t .RoundingException) (at .1) (o .1)))
       (same-chunked k (drop L xs) (omega (arith, more k xs h, length-drop L xs)) (i - L) (omega (arith, length-drop L xs))))
       (lt-or-le i L)
 
-  differs-chunked : (k : ℕ) (xs : List Float) → k * L ≤ length xs → (i : ℕ) → i < k * L → t .Odd (getD xs i nan) → (getD (chunked k L chunk plain xs) i 0 ≡ t .lane-color) × (plain (getD xs i nan) ≡ t .plain-color)
+  differs-chunked : (k : ℕ) (xs : List Float) → k * L ≤ length xs → (i : ℕ) → i < k * L → t .RoundingException (getD xs i nan) → (getD (chunked k L chunk plain xs) i 0 ≡ t .lane-color) × (plain (getD xs i nan) ≡ t .plain-color)
   unfolding chunked
   differs-chunked zero xs h i l o = absurd (omega arith)
   differs-chunked (suc k) xs h i l o = ⊎-elim
       (λ (b : i < L).
       let at = in-first-chunk k xs h i b in
-      let d = law .odd (first k xs h) (first-long k xs h) i b (subst (t .Odd) (sym (at .1)) o) in
+      let d = law .odd (first k xs h) (first-long k xs h) i b (subst (t .RoundingException) (sym (at .1)) o) in
       (at .0 ∙ d .0, ap plain (sym (at .1)) ∙ d .1))
       (λ (b : L ≤ i).
       let at = in-later-chunk k xs h i b in
-      let d = differs-chunked k (drop L xs) (omega (arith, more k xs h, length-drop L xs)) (i - L) (omega (arith, more k xs h)) (subst (t .Odd) (sym (at .1)) o) in
+      let d = differs-chunked k (drop L xs) (omega (arith, more k xs h, length-drop L xs)) (i - L) (omega (arith, more k xs h)) (subst (t .RoundingException) (sym (at .1)) o) in
       (at .0 ∙ d .0, ap plain (sym (at .1)) ∙ d .1))
       (lt-or-le i L)
 
@@ -113,12 +113,12 @@ module _ (p : Painter) (L : ℕ) (t : Terms) (law : PainterLaw p L t) where
 
   -- at one pixel
   same-at : (b : Bool) → (b ≡ true → ChunkLaw L (p .chunk) (p .plain) t) → (xs : List Float) (i : ℕ) → i < length xs
-      → (getD (in-lanes b xs) i 0 ≡ p .plain (getD xs i nan)) ⊎ ((i < full L (length xs)) × t .Odd (getD xs i nan))
+      → (getD (in-lanes b xs) i 0 ≡ p .plain (getD xs i nan)) ⊎ ((i < full L (length xs)) × t .RoundingException (getD xs i nan))
   unfolding lanePainted
   same-at true h xs i l = same-chunked L (p .chunk) (p .plain) t (h refl) (law .plainly-alone) (length xs / L) xs (div-mul-le-self (length xs) L) i l
   same-at false h xs i l = inl (sym (getD-map-in (p .plain) xs i nan 0 l))
 
-  differs-at : (b : Bool) → (b ≡ true → ChunkLaw L (p .chunk) (p .plain) t) → b ≡ true → (xs : List Float) (i : ℕ) → i < full L (length xs) → t .Odd (getD xs i nan)
+  differs-at : (b : Bool) → (b ≡ true → ChunkLaw L (p .chunk) (p .plain) t) → b ≡ true → (xs : List Float) (i : ℕ) → i < full L (length xs) → t .RoundingException (getD xs i nan)
       → (getD (in-lanes b xs) i 0 ≡ t .lane-color) × (p .plain (getD xs i nan) ≡ t .plain-color)
   unfolding lanePainted
   differs-at true h e xs i l o = differs-chunked L (p .chunk) (p .plain) t (h refl) (law .plainly-alone) (length xs / L) xs (div-mul-le-self (length xs) L) i l o

@@ -59,14 +59,14 @@ module _ (p : Painter) (xs : List Float) (out : List ℕ) {n : ℕ} (m : n ≡ l
     asked = d ∙ ap (λ k. laneRefusal (p .stored) L (length scratch) k (length out)) m
 
     pub lane-refused : {why : Refusal} → a ≡ Refused why → LanePainting p L xs out scratch a out scratch
-    lane-refused e = record { answered = asked; output = sym (when-refused painted out e); kept = sym (when-refused (cond (p .simd) (scratchAfter L out scratch) scratch) scratch e) }
+    lane-refused e = record { answered = asked; output = sym (when-refused painted out e); scratch-after = sym (when-refused (cond (p .simd) (scratchAfter L out scratch) scratch) scratch e) }
 
     pub lane-done : a ≡ Done → p .simd ≡ true → {out' scratch' : List ℕ} → out' ≡ lanePainted L (p .chunk) (p .plain) xs → scratch' ≡ scratchAfter L out' scratch → LanePainting p L xs out scratch a out' scratch'
     lane-done e s {out'} w k =
         record {
           answered = asked;
           output = w ∙ sym (when-done painted out e ∙ ap (λ b. cond b (lanePainted L (p .chunk) (p .plain) xs) (plainPainted (p .plain) xs)) s);
-          kept = k ∙ sym (when-done (cond (p .simd) (scratchAfter L out' scratch) scratch) scratch e ∙ ap (λ b. cond b (scratchAfter L out' scratch) scratch) s);
+          scratch-after = k ∙ sym (when-done (cond (p .simd) (scratchAfter L out' scratch) scratch) scratch e ∙ ap (λ b. cond b (scratchAfter L out' scratch) scratch) s);
         }
 
     -- a legend whose lanes have no rule
@@ -75,5 +75,5 @@ module _ (p : Painter) (xs : List Float) (out : List ℕ) {n : ℕ} (m : n ≡ l
         record {
           answered = asked;
           output = w ∙ sym (when-done painted out e ∙ ap (λ b. cond b (lanePainted L (p .chunk) (p .plain) xs) (plainPainted (p .plain) xs)) s);
-          kept = sym (when-done (cond (p .simd) (scratchAfter L out' scratch) scratch) scratch e ∙ ap (λ b. cond b (scratchAfter L out' scratch) scratch) s);
+          scratch-after = sym (when-done (cond (p .simd) (scratchAfter L out' scratch) scratch) scratch e ∙ ap (λ b. cond b (scratchAfter L out' scratch) scratch) s);
         }

@@ -55,4 +55,4 @@ pub record PlainPainting (p : Painter) (xs : List Float) (out : List ℕ) (answe
 pub record LanePainting (p : Painter) (L : ℕ) (xs : List Float) (out scratch : List ℕ) (answer : Answer) (out' scratch' : List ℕ) : Type 0 where
   pub answered : answer ≡ laneAnswer p L xs out scratch
   pub output : out' ≡ ifDone answer (cond (p .simd) (lanePainted L (p .chunk) (p .plain) xs) (plainPainted (p .plain) xs)) out
-  pub kept : scratch' ≡ ifDone answer (cond (p .simd) (scratchAfter L out' scratch) scratch) scratch
+  pub scratch-after : scratch' ≡ ifDone answer (cond (p .simd) (scratchAfter L out' scratch) scratch) scratch

@@ -12,7 +12,7 @@ use lib.Seq.{getD-append-add}
 use mathlib.Core.Logic.{inl, inr}
 use Rattle.lists.proofs.Numbers.{lt-or-le}
 use Rattle.color.specs.Word.{wordOf}
-use Rattle.palettes.specs.Palettes.{palettes, palette, table, offset}
+use Rattle.palettes.specs.Palettes.{palettes, palette, paletteTable, offset}
 
 -- a test at each place of a list, the first being i
 abbrev pub every : (ℕ → ℕ → Bool) → ℕ → List ℕ → Bool
@@ -56,8 +56,8 @@ room (l ∷ ls) zero h = omega (arith, length-append l (flatten ls))
 room (l ∷ ls) (suc n) h = omega (arith, length-append l (flatten ls), length-append l (flatten (take n ls)), room ls n (le-of-suc-le-suc h))
 
 module _ (number : ℕ) (h : number < 32) where
-  pub in-table : (i : ℕ) → i < length (palette number) → getD table (offset number + i) 0 ≡ getD (palette number) i 0
-  unfolding table offset begins
+  pub in-table : (i : ℕ) → i < length (palette number) → getD paletteTable (offset number + i) 0 ≡ getD (palette number) i 0
+  unfolding paletteTable offset begins
   in-table i k = part palettes number i (unfold palettes in h) k
 
   pub offset-room : offset number + length (palette number) ≤ 304

@@ -146,8 +146,8 @@ abbrev pub palette : ℕ → List ℕ
 palette number = getD palettes number []
 
 -- the table: the lists one after the other, and where each begins
-unfoldable pub table : List ℕ
-table = flatten palettes
+unfoldable pub paletteTable : List ℕ
+paletteTable = flatten palettes
 
 unfoldable pub offset : ℕ → ℕ
 offset number = length (flatten (take number palettes))

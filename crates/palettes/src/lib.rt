@@ -10,7 +10,7 @@ ghost use mathlib.Core.Path.{_≡_};
 ghost use Prim.Native.Nat.{_<_};
 ghost use lib.ListN.{length, getD};
 ghost use Rattle.lists.specs.Padded.{padded};
-ghost use Rattle.palettes.specs.Palettes.{palette, table, offset};
+ghost use Rattle.palettes.specs.Palettes.{palette, paletteTable, offset};
 ghost use Rattle.palettes.specs.Asked.{presetRefusal, paletteOf};
 
 // A palette's colours: the first `count`, and 0 from there on. No colours beside a refusal.
@@ -75,7 +75,7 @@ fn offset_of(number: usize) -> usize
 
 fn table_color(at: usize) -> u32
     requires { ⌜ at < 304 ⌝ }
-    ensures { λ r. ⌜ r ≡ getD table at 0 ⌝ }
+    ensures { λ r. ⌜ r ≡ getD paletteTable at 0 ⌝ }
 {
     COLORS[at]
 }

@@ -18,7 +18,7 @@ use Rattle.legend.specs.declared.LegendKind.{LegendKind}
 use Rattle.legend.specs.declared.LegendKind.the-variants as kind
 use Rattle.legend.specs.declared.Legend.{Legend}
 use Rattle.replay_rows.specs.Values.{bitsOf, lowOf}
-use Rattle.replay_rows.specs.Parts.{over}
+use Rattle.replay_rows.specs.Parts.{putAt}
 
 -- ---- ten words
 abbrev pub kindWord : LegendKind → ℕ
@@ -60,16 +60,16 @@ keyWords keys = tabulate 256 (λ k. lowOf (getD keys k (pos 0)))
 unfoldable pub withBands : Banded → List ℕ → List ℕ
 withBands banded row =
     let bands = banded .bands in
-    over 776 (map (λ (b : LegendBand). b .color) bands) (over 712 (floatWords (map (λ (b : LegendBand). b .end) bands)) (over 648 (floatWords (map (λ (b : LegendBand). b .start) bands)) row))
+    putAt 776 (map (λ (b : LegendBand). b .color) bands) (putAt 712 (floatWords (map (λ (b : LegendBand). b .end) bands)) (putAt 648 (floatWords (map (λ (b : LegendBand). b .start) bands)) row))
 
 -- keys, colours, table
 unfoldable pub withCategories : CategoricNumeric → List ℕ → List ℕ
-withCategories c row = over 1160 (c .lookup) (over 904 (c .colors) (over 648 (keyWords (c .keys)) row))
+withCategories c row = putAt 1160 (c .lookup) (putAt 904 (c .colors) (putAt 648 (keyWords (c .keys)) row))
 
 abbrev pub withArrays : LegendKind → Legend → List ℕ → List ℕ
-withArrays kind.Linear l row = over 648 (l .linear .cmap) row
+withArrays kind.Linear l row = putAt 648 (l .linear .cmap) row
 withArrays kind.Banded l row = withBands (l .banded) row
 withArrays kind.CategoricNumeric l row = withCategories (l .categoric) row
 
 unfoldable pub withRecord : Legend → List ℕ → List ℕ
-withRecord l row = withArrays (l .kind) l (over 132 (headWords l) row)
+withRecord l row = withArrays (l .kind) l (putAt 132 (headWords l) row)

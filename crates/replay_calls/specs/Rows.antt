@@ -17,7 +17,7 @@ use Rattle.palettes.specs.Asked.{paletteOf}
 use Rattle.lookup.specs.declared.Entry.{Entry}
 use Rattle.lookup.specs.Entries.{entryColor, plainEntry, laneEntry}
 use Rattle.replay_rows.specs.Values.{floatOf, lowOf, highOf, atMost}
-use Rattle.replay_rows.specs.Parts.{valuesAt, wordsAt, over}
+use Rattle.replay_rows.specs.Parts.{valuesAt, wordsAt, putAt}
 use Rattle.replay_legends.specs.Asked.{rampOf}
 use Rattle.replay_calls.specs.Replies.{withAnswer}
 
@@ -28,7 +28,7 @@ asked row = padded 0 1680 (wordsAt 0 128 row)
 unfoldable pub paletteRow : (row : List ℕ) → List ℕ
 paletteRow row =
     let p = paletteOf (getD row 1 0) in
-    over 184 (p .colors) (set (withAnswer (p .answer) (asked row)) 130 (p .count % 4294967296))
+    putAt 184 (p .colors) (set (withAnswer (p .answer) (asked row)) 130 (p .count % 4294967296))
 
 abbrev pub withHex : HexColor → List ℕ → List ℕ
 withHex (Made c) row = set (withAnswer answer.Done row) 130 (color.wordOf c)
@@ -47,9 +47,9 @@ lookupRow row =
     let made = rampOf row in
     let cmap = made .ramp .cmap in
     let fractions = valuesAt floatOf 80 16 row in
-    over 304 (lookedUp laneEntry cmap fractions)
-    (over 184 (lookedUp plainEntry cmap fractions)
-    (over 392 cmap (withAnswer (made .answer) (asked row))))
+    putAt 304 (lookedUp laneEntry cmap fractions)
+    (putAt 184 (lookedUp plainEntry cmap fractions)
+    (putAt 392 cmap (withAnswer (made .answer) (asked row))))
 
 -- ---- whole numbers
 abbrev pub wholeLow : Truncated → ℕ
@@ -73,4 +73,4 @@ truncatedBy word samples = tabulate 16 (λ k. word (truncatedAt samples k))
 unfoldable pub truncatedRow : (row : List ℕ) → List ℕ
 truncatedRow row =
     let samples = valuesAt floatOf 80 16 row in
-    over 264 (truncatedBy wholeThere samples) (over 224 (truncatedBy wholeHigh samples) (over 184 (truncatedBy wholeLow samples) (asked row)))
+    putAt 264 (truncatedBy wholeThere samples) (putAt 224 (truncatedBy wholeHigh samples) (putAt 184 (truncatedBy wholeLow samples) (asked row)))

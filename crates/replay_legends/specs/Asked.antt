@@ -16,23 +16,23 @@ use Rattle.colormapper.specs.declared.OptionalColor.{OptionalColor}
 use Rattle.colormapper.specs.declared.OptionalColor.the-variants.{Given, Absent}
 use Rattle.colormapper.specs.declared.MappingConfig.{MappingConfig}
 use Rattle.linear.specs.Made.{linearOfRamp, linearOfList}
-use Rattle.banded_lists.specs.Places.{placesOf}
+use Rattle.banded_lists.specs.Padded.{paddedBands}
 use Rattle.banded.specs.EqualBands.{withEqualBands}
 use Rattle.banded.specs.ManualRanges.{withManualRanges}
 use Rattle.catgegoric.specs.Made.{forValues, forValuesFromRamp, forValueRange, forValueRangeFromRamp}
 use Rattle.legend.specs.Record.{linearLegend, bandedLegend, categoricLegend}
 use Rattle.legend_builders.specs.declared.MadeLegend.{MadeLegend}
-use Rattle.legend_builders.specs.Building.{madeLinear, madeBanded, madeCategoric}
+use Rattle.legend_builders.specs.Building.{linearWithSettings, bandedWithSettings, categoricWithSettings}
 use Rattle.replay_rows.specs.Values.{floatOf, wholeOf, atMost}
 use Rattle.replay_rows.specs.Parts.{valuesAt, wordsAt}
-use Rattle.replay_legends.specs.Lists.{listOf, keysOf, rangesOf, bandAt}
+use Rattle.replay_legends.specs.Lists.{listOf, rowKeys, rowRanges, rowBand}
 
 -- ---- settings and colours
 abbrev pub optionalOf : Bool → ℕ → OptionalColor
 optionalOf given color = cond given (Given color) Absent
 
-unfoldable pub settingsOf : (row : List ℕ) → MappingConfig
-settingsOf row =
+unfoldable pub rowSettings : (row : List ℕ) → MappingConfig
+rowSettings row =
     let flags = getD row 4 0 in
     record {
       «nodata_color» = getD row 3 0;
@@ -59,31 +59,31 @@ abbrev pub endOf : (row : List ℕ) → Float
 endOf row = floatOf (getD row 33 0)
 
 unfoldable pub linearOf : (row : List ℕ) → MappingConfig → MadeLegend
-linearOf row config = madeLinear (bySource row (linearOfRamp (startOf row) (endOf row) (cmapOf row)) (linearOfList (startOf row) (endOf row) (listOf row))) config
+linearOf row config = linearWithSettings (bySource row (linearOfRamp (startOf row) (endOf row) (cmapOf row)) (linearOfList (startOf row) (endOf row) (listOf row))) config
 
 unfoldable pub equalBandsOf : (row : List ℕ) → MappingConfig → MadeLegend
 equalBandsOf row config =
     let count = getD row 10 0 in
-    madeBanded (withEqualBands count (startOf row) (endOf row) (bySource row (rampColors count (cmapOf row)) (listOf row))) config
+    bandedWithSettings (withEqualBands count (startOf row) (endOf row) (bySource row (rampColors count (cmapOf row)) (listOf row))) config
 
 unfoldable pub manualRangesOf : (row : List ℕ) → MappingConfig → MadeLegend
 manualRangesOf row config =
-    let values = rangesOf row in
-    madeBanded (withManualRanges values (bySource row (rampColors (values .count) (cmapOf row)) (listOf row))) config
+    let values = rowRanges row in
+    bandedWithSettings (withManualRanges values (bySource row (rampColors (values .count) (cmapOf row)) (listOf row))) config
 
 unfoldable pub categoriesOf : (row : List ℕ) → MappingConfig → MadeLegend
-categoriesOf row config = madeCategoric (bySource row (forValuesFromRamp (keysOf row) (cmapOf row)) (forValues (keysOf row) (listOf row))) config
+categoriesOf row config = categoricWithSettings (bySource row (forValuesFromRamp (rowKeys row) (cmapOf row)) (forValues (rowKeys row) (listOf row))) config
 
 unfoldable pub categoryRangeOf : (row : List ℕ) → MappingConfig → MadeLegend
 categoryRangeOf row config =
     let first = wholeOf (getD row 32 0) in
     let last = wholeOf (getD row 33 0) in
-    madeCategoric (bySource row (forValueRangeFromRamp first last (cmapOf row)) (forValueRange first last (listOf row))) config
+    categoricWithSettings (bySource row (forValueRangeFromRamp first last (cmapOf row)) (forValueRange first last (listOf row))) config
 
 -- ---- records that no builder made
 unfoldable pub bandsGiven : (row : List ℕ) → MappingConfig → MadeLegend
 bandsGiven row config =
-    record { answer = Done; legend = bandedLegend (record { bands = placesOf (tabulate 16 (bandAt row)); count = atMost (getD row 10 0) 16 }) config }
+    record { answer = Done; legend = bandedLegend (record { bands = paddedBands (tabulate 16 (rowBand row)); count = atMost (getD row 10 0) 16 }) config }
 
 unfoldable pub linearStored : (row : List ℕ) → MappingConfig → MadeLegend
 linearStored row config = record { answer = Done; legend = linearLegend (record { start = startOf row; end = endOf row; cmap = cmapOf row }) config }
@@ -116,5 +116,5 @@ legendIn kind row config =
     (cond (eqb kind 10) (linearStored row config)
     (categoriesStored row config)))))))
 
-unfoldable pub legendOf : (row : List ℕ) → MadeLegend
-legendOf row = legendIn (getD row 0 0) row (settingsOf row)
+unfoldable pub rowLegend : (row : List ℕ) → MadeLegend
+rowLegend row = legendIn (getD row 0 0) row (rowSettings row)

@@ -16,16 +16,16 @@ use Rattle.banded_lists.specs.declared.ValueRanges.{ValueRanges}
 abbrev pub listOf : (row : List ℕ) → List ℕ
 listOf row = take (atMost (getD row 2 0) 16) (wordsAt 16 16 row)
 
-abbrev pub keysOf : (row : List ℕ) → List ℤ
-keysOf row = take (atMost (getD row 10 0) 16) (valuesAt wholeOf 32 16 row)
+abbrev pub rowKeys : (row : List ℕ) → List ℤ
+rowKeys row = take (atMost (getD row 10 0) 16) (valuesAt wholeOf 32 16 row)
 
 -- starts and ends by turns
-abbrev pub rangeAt : (row : List ℕ) → ℕ → ValueRange
-rangeAt row i = record { start = floatOf (getD row (32 + 2 * i) 0); end = floatOf (getD row (33 + 2 * i) 0) }
+abbrev pub rowRange : (row : List ℕ) → ℕ → ValueRange
+rowRange row i = record { start = floatOf (getD row (32 + 2 * i) 0); end = floatOf (getD row (33 + 2 * i) 0) }
 
-unfoldable pub rangesOf : (row : List ℕ) → ValueRanges
-rangesOf row = record { ranges = padded (record { start = nought; end = nought }) 64 (tabulate 16 (rangeAt row)); count = atMost (getD row 10 0) 16 }
+unfoldable pub rowRanges : (row : List ℕ) → ValueRanges
+rowRanges row = record { ranges = padded (record { start = nought; end = nought }) 64 (tabulate 16 (rowRange row)); count = atMost (getD row 10 0) 16 }
 
 -- with the list's colours
-abbrev pub bandAt : (row : List ℕ) → ℕ → LegendBand
-bandAt row i = record { start = floatOf (getD row (32 + 2 * i) 0); end = floatOf (getD row (33 + 2 * i) 0); color = getD row (16 + i) 0 }
+abbrev pub rowBand : (row : List ℕ) → ℕ → LegendBand
+rowBand row i = record { start = floatOf (getD row (32 + 2 * i) 0); end = floatOf (getD row (33 + 2 * i) 0); color = getD row (16 + i) 0 }

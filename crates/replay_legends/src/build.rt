@@ -15,7 +15,7 @@ use replay_rows::part;
 use replay_rows::place;
 use replay_rows::value;
 ghost use mathlib.Core.Path.{_≡_};
-ghost use Rattle.replay_legends.specs.Asked.{optionalOf, settingsOf, rampOf, cmapOf, linearOf, equalBandsOf, manualRangesOf, categoriesOf, categoryRangeOf, bandsGiven, linearStored, categoriesStored, legendOf};
+ghost use Rattle.replay_legends.specs.Asked.{optionalOf, rowSettings, rampOf, cmapOf, linearOf, equalBandsOf, manualRangesOf, categoriesOf, categoryRangeOf, bandsGiven, linearStored, categoriesStored, rowLegend};
 
 // ---- settings and colours
 
@@ -30,7 +30,7 @@ fn optional(given: bool, color: u32) -> OptionalColor
 }
 
 pub fn settings(row: &[u32; 1680]) -> MappingConfig
-    ensures { λ r. ⌜ r ≡ settingsOf (now (row .entry)) ⌝ }
+    ensures { λ r. ⌜ r ≡ rowSettings (now (row .entry)) ⌝ }
 {
     let flags = row[place::FLAGS];
     MappingConfig {
@@ -191,7 +191,7 @@ fn categories_stored(row: &[u32; 1680], config: MappingConfig) -> MadeLegend
 // ---- the legend of a row, by its kind
 
 pub fn made(row: &[u32; 1680]) -> MadeLegend
-    ensures { λ r. ⌜ r ≡ legendOf (now (row .entry)) ⌝ }
+    ensures { λ r. ⌜ r ≡ rowLegend (now (row .entry)) ⌝ }
 {
     let config = settings(row);
     match row[0] {

@@ -11,12 +11,12 @@ ghost use Rattle.lists.specs.Padded.{padded};
 ghost use Rattle.lists.specs.Tabulate.{tabulate};
 ghost use Rattle.replay_rows.specs.Values.{wholeOf};
 ghost use Rattle.replay_rows.specs.Parts.{valuesAt, wordsAt};
-ghost use Rattle.banded_lists.specs.Places.{placesOf};
-ghost use Rattle.replay_legends.specs.Lists.{rangeAt, rangesOf, bandAt};
+ghost use Rattle.banded_lists.specs.Padded.{paddedBands};
+ghost use Rattle.replay_legends.specs.Lists.{rowRange, rowRanges, rowBand};
 
 fn range(row: &[u32; 1680], i: usize) -> ValueRange
     requires { ⌜ i < 16 ⌝ }
-    ensures { λ r. ⌜ r ≡ rangeAt (now (row .entry)) i ⌝ }
+    ensures { λ r. ⌜ r ≡ rowRange (now (row .entry)) i ⌝ }
 {
     ValueRange {
         start: value::float(row[place::NUMBERS + 2 * i]),
@@ -25,7 +25,7 @@ fn range(row: &[u32; 1680], i: usize) -> ValueRange
 }
 
 pub fn ranges(row: &[u32; 1680]) -> ValueRanges
-    ensures { λ r. ⌜ r ≡ rangesOf (now (row .entry)) ⌝ }
+    ensures { λ r. ⌜ r ≡ rowRanges (now (row .entry)) ⌝ }
 {
     let none = ValueRange {
         start: 0.0,
@@ -45,7 +45,7 @@ pub fn ranges(row: &[u32; 1680]) -> ValueRanges
 
 fn band(row: &[u32; 1680], i: usize) -> LegendBand
     requires { ⌜ i < 16 ⌝ }
-    ensures { λ r. ⌜ r ≡ bandAt (now (row .entry)) i ⌝ }
+    ensures { λ r. ⌜ r ≡ rowBand (now (row .entry)) i ⌝ }
 {
     let values = range(row, i);
     LegendBand {
@@ -56,7 +56,7 @@ fn band(row: &[u32; 1680], i: usize) -> LegendBand
 }
 
 pub fn bands(row: &[u32; 1680]) -> [LegendBand; 64]
-    ensures { λ r. ⌜ r ≡ placesOf (tabulate 16 (bandAt (now (row .entry)))) ⌝ }
+    ensures { λ r. ⌜ r ≡ paddedBands (tabulate 16 (rowBand (now (row .entry)))) ⌝ }
 {
     let none = LegendBand {
         start: 0.0,

@@ -19,8 +19,8 @@ use Rattle.painting.specs.Painted.{plainPainted, lanePainted, scratchAfter}
 use Rattle.painting.specs.Contracts.{Painter, plainRefusal, laneRefusal, PlainPainting, LanePainting}
 use Rattle.legend.specs.declared.Legend.{Legend}
 use Rattle.legend.specs.Painters.{painter}
-use Rattle.legend_view.specs.declared.Head.{Head}
-use Rattle.legend_view.specs.Lent.{lentLegend, headOf}
+use Rattle.legend_view.specs.declared.View.{View}
+use Rattle.legend_view.specs.Borrowed.{borrowedLegend, viewOf}
 use Rattle.legend_pixel.specs.Values.{colorForValue}
 use Rattle.replay_rows.specs.Values.{atMost}
 use Rattle.replay_paintings.specs.declared.LaneWords.{LaneWords}
@@ -80,32 +80,32 @@ module _ (n : ℕ) (xs : List Float) (few : n ≤ 40) (many : length xs ≡ n) w
       let o : out' ≡ inLanes L p xs = q .output ∙ ap₂ (λ x r. ifDone x (cond (p .simd) (lanePainted L (p .chunk) (p .plain) xs) (plainPainted (p .plain) xs)) r) a out-is in
       ap₂ lane-words
       (ap₂ (λ (w r : List ℕ). w ++ r) o rest-is)
-      (q .kept ∙ ap₂ (λ x w. ifDone x (cond (p .simd) (scratchAfter L w mark) mark) mark) a o)
+      (q .scratch-after ∙ ap₂ (λ x w. ifDone x (cond (p .simd) (scratchAfter L w mark) mark) mark) a o)
 
 -- ---- a legend whose arrays are lent
-module _ (l : Legend) (nodata : Nodata) {h : Head} (e : h ≡ headOf l) where
-  abbrev again : Head → Legend
-  again x = lentLegend x (l .linear .cmap) (l .categoric .keys) (l .categoric .colors) (l .categoric .lookup)
+module _ (l : Legend) (nodata : Nodata) {h : View} (e : h ≡ viewOf l) where
+  abbrev again : View → Legend
+  again x = borrowedLegend x (l .linear .cmap) (l .categoric .keys) (l .categoric .colors) (l .categoric .lookup)
 
   pub plainly : {xs : List Float} {out out' : List ℕ} {answer : Answer} → PlainPainting (painter (again h) nodata) xs out answer out' → PlainPainting (painter l nodata) xs out answer out'
-  plainly {xs} {out} {out'} {answer} = subst (λ (x : Head). PlainPainting (painter (again x) nodata) xs out answer out') e
+  plainly {xs} {out} {out'} {answer} = subst (λ (x : View). PlainPainting (painter (again x) nodata) xs out answer out') e
 
   pub laned : {L : ℕ} {xs : List Float} {out scratch out' scratch' : List ℕ} {answer : Answer} → LanePainting (painter (again h) nodata) L xs out scratch answer out' scratch' → LanePainting (painter l nodata) L xs out scratch answer out' scratch'
-  laned {L} {xs} {out} {scratch} {out'} {scratch'} {answer} = subst (λ (x : Head). LanePainting (painter (again x) nodata) L xs out scratch answer out' scratch') e
+  laned {L} {xs} {out} {scratch} {out'} {scratch'} {answer} = subst (λ (x : View). LanePainting (painter (again x) nodata) L xs out scratch answer out' scratch') e
 
-  abbrev pub wordBy : Head → Float → ℕ
+  abbrev pub wordBy : View → Float → ℕ
   wordBy x v = colorOrNumber (colorForValue (again x) nodata v)
 
   -- each by itself: samples that become floats, and floats
   pub values-are : {A : Type 0} {words : List ℕ} (float : A → Float) (z : A) (n : ℕ) (samples : List A) → n ≤ length samples → words ≡ padded 0 40 (tabulate n (λ k. wordBy h (float (getD samples k z)))) → words ≡ valueWords l nodata (map float (take n samples))
   unfolding valueWords tabulate
   values-are {A = A} float z n samples few q =
-      q ∙ ap (λ (x : Head). padded 0 40 (tabulate n (λ k. wordBy x (float (getD samples k z))))) e ∙ ap (padded 0 40) (by-map n samples few)
+      q ∙ ap (λ (x : View). padded 0 40 (tabulate n (λ k. wordBy x (float (getD samples k z))))) e ∙ ap (padded 0 40) (by-map n samples few)
     where
-      by-map : (n : ℕ) (ys : List A) → n ≤ length ys → tabulate n (λ k. wordBy (headOf l) (float (getD ys k z))) ≡ map (λ v. wordBy (headOf l) v) (map float (take n ys))
+      by-map : (n : ℕ) (ys : List A) → n ≤ length ys → tabulate n (λ k. wordBy (viewOf l) (float (getD ys k z))) ≡ map (λ v. wordBy (viewOf l) v) (map float (take n ys))
       by-map zero ys few = refl
       by-map (suc n) [] few = absurd (omega arith)
-      by-map (suc n) (y ∷ ys) few = ap (λ (r : List ℕ). wordBy (headOf l) (float y) ∷ r) (by-map n ys (omega arith))
+      by-map (suc n) (y ∷ ys) few = ap (λ (r : List ℕ). wordBy (viewOf l) (float y) ∷ r) (by-map n ys (omega arith))
 
 map-same : (xs : List Float) → map (λ v. v) xs ≡ xs
 map-same [] = refl

@@ -17,7 +17,7 @@ use Rattle.legend.specs.Painters.{painter}
 use Rattle.legend_pixel.specs.declared.PixelColor.{PixelColor}
 use Rattle.legend_pixel.specs.declared.PixelColor.the-variants.{Color, Refused}
 use Rattle.legend_pixel.specs.Values.{colorForValue}
-use Rattle.replay_rows.specs.Parts.{over}
+use Rattle.replay_rows.specs.Parts.{putAt}
 use Rattle.replay_paintings.specs.declared.LaneWords.{LaneWords}
 use Rattle.replay_paintings.specs.declared.Paintings.{Paintings}
 use Rattle.replay_paintings.specs.Samples.{nodataF32, nodataByte, nodataShort, samplesF32, samplesU8, samplesI16}
@@ -79,9 +79,9 @@ abbrev pub paintingsOf : Legend → (row : List ℕ) → Paintings
 paintingsOf legend row = paintingsIn (getD row 8 0) legend row
 
 -- ---- in their places
-abbrev pub withLanes : LaneWords → (at kept : ℕ) → List ℕ → List ℕ
-withLanes lanes at kept row = over kept (lanes .scratch) (over at (lanes .words) row)
+abbrev pub withLanes : LaneWords → (at scratch-after : ℕ) → List ℕ → List ℕ
+withLanes lanes at scratch-after row = putAt scratch-after (lanes .scratch) (putAt at (lanes .words) row)
 
 unfoldable pub withPaintings : Paintings → List ℕ → List ℕ
 withPaintings p row =
-    withLanes (p .«lanes_16») 304 376 (withLanes (p .«lanes_8») 264 360 (withLanes (p .«lanes_4») 224 344 (over 184 (p .plain) (over 144 (p .values) row))))
+    withLanes (p .«lanes_16») 304 376 (withLanes (p .«lanes_8») 264 360 (withLanes (p .«lanes_4») 224 344 (putAt 184 (p .plain) (putAt 144 (p .values) row))))

@@ -38,12 +38,12 @@ fn values(legend: Legend, samples: [f32; 40], count: usize, nodata: Nodata) -> [
     let keys = categoric.keys;
     let colors = categoric.colors;
     let lookup = categoric.lookup;
-    let head = legend_view::head_of(legend);
+    let view = legend_view::view_of(legend);
     let mut words = [0u32; 40];
     let mut i: usize = 0;
     while i < count {
         words[i] = paint::color_or_number(legend_pixel::color_for_value(
-            head,
+            view,
             &cmap,
             &keys,
             &colors,
@@ -66,10 +66,10 @@ fn plain(legend: Legend, samples: [f32; 40], count: usize, nodata: Nodata) -> [u
     let keys = categoric.keys;
     let colors = categoric.colors;
     let lookup = categoric.lookup;
-    let head = legend_view::head_of(legend);
+    let view = legend_view::view_of(legend);
     let mut words = [0u32; 40];
     legend_scalar::apply_to_data_scalar(
-        head,
+        view,
         &cmap,
         &keys,
         &colors,
@@ -97,11 +97,11 @@ fn lanes(
     let keys = categoric.keys;
     let colors = categoric.colors;
     let lookup = categoric.lookup;
-    let head = legend_view::head_of(legend);
+    let view = legend_view::view_of(legend);
     let mut words = [0u32; 40];
     let mut scratch = [0x5c5c_5c5cu32; 16];
     legend_kernel::apply_to_data_kernel(
-        head,
+        view,
         &cmap,
         &keys,
         &colors,

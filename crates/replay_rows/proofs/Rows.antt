@@ -9,17 +9,17 @@ use borrow.Author.Tests.{eqb-true, eq-eqb, ne-eqb}
 use lib.Dec.{eqb}
 use lib.ListN.{length, getD, take, drop, set, length-append, length-drop, take-append-drop}
 use lib.Seq.{length-take-le, take-suc, drop-cons, set-at, ext-getD}
-use Rattle.replay_rows.specs.Parts.{over, differFrom, firstDifference}
+use Rattle.replay_rows.specs.Parts.{putAt, differFrom, firstDifference}
 
 -- ---- words laid over a row
-pub over-none : (from : ℕ) (words row : List ℕ) → row ≡ over from (take 0 words) row
-unfolding over
+pub over-none : (from : ℕ) (words row : List ℕ) → row ≡ putAt from (take 0 words) row
+unfolding putAt
 over-none from words row =
     let e : from + 0 ≡ from = omega arith in
     sym (ap (λ (n : ℕ). take from row ++ drop n row) e ∙ take-append-drop from row)
 
-pub over-more : (from i : ℕ) (words row : List ℕ) → i < length words → from + length words ≤ length row → set (over from (take i words) row) (from + i) (getD words i 0) ≡ over from (take (i + 1) words) row
-unfolding over
+pub over-more : (from i : ℕ) (words row : List ℕ) → i < length words → from + length words ≤ length row → set (putAt from (take i words) row) (from + i) (getD words i 0) ≡ putAt from (take (i + 1) words) row
+unfolding putAt
 over-more from i words row h g =
     let t : length (take i words) ≡ i = length-take-le i words (omega arith) in
     let p : length (take from row) ≡ from = length-take-le from row (omega arith) in
@@ -33,8 +33,8 @@ over-more from i words row h g =
     x : ℕ
     x = getD words i 0
 
-pub length-over : (from : ℕ) (words row : List ℕ) → from + length words ≤ length row → length (over from words row) ≡ length row
-unfolding over
+pub length-over : (from : ℕ) (words row : List ℕ) → from + length words ≤ length row → length (putAt from words row) ≡ length row
+unfolding putAt
 length-over from words row h =
     omega (arith, length-append (take from row) (words ++ drop (from + length words) row), length-append words (drop (from + length words) row), length-take-le from row (omega arith), length-drop (from + length words) row)
 

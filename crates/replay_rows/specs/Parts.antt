@@ -14,8 +14,8 @@ abbrev pub wordsAt : (from n : ℕ) → List ℕ → List ℕ
 wordsAt from n row = valuesAt (λ w. w) from n row
 
 -- words laid over a row from a place on
-unfoldable pub over : (from : ℕ) (words row : List ℕ) → List ℕ
-over from words row = take from row ++ (words ++ drop (from + length words) row)
+unfoldable pub putAt : (from : ℕ) (words row : List ℕ) → List ℕ
+putAt from words row = take from row ++ (words ++ drop (from + length words) row)
 
 -- the first place, of the next n from i on, in which two rows differ; i + n where they agree in all
 unfoldable pub differFrom : (i n : ℕ) (a b : List ℕ) → ℕ

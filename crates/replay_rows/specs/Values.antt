@@ -8,11 +8,11 @@ use lib.Ieee.{Float, binary32, nan, ofBits, toBits}
 use lib.ListN.{getD}
 
 -- bytes, the lowest first
-abbrev pub wordOf : (a b c d : ℕ) → ℕ
-wordOf a b c d = a + 256 * b + 65536 * c + 16777216 * d
+abbrev pub wordAsNumber : (a b c d : ℕ) → ℕ
+wordAsNumber a b c d = a + 256 * b + 65536 * c + 16777216 * d
 
 abbrev pub wordAt : List ℕ → ℕ → ℕ
-wordAt bytes i = wordOf (getD bytes (4 * i) 0) (getD bytes (4 * i + 1) 0) (getD bytes (4 * i + 2) 0) (getD bytes (4 * i + 3) 0)
+wordAt bytes i = wordAsNumber (getD bytes (4 * i) 0) (getD bytes (4 * i + 1) 0) (getD bytes (4 * i + 2) 0) (getD bytes (4 * i + 3) 0)
 
 -- a float's bits; every pattern of a NaN is the one NaN, whose own is 7FC00000
 unfoldable pub floatOf : ℕ → Float

@@ -7,7 +7,7 @@ ghost use lib.ListN.{length};
 ghost use Rattle.lists.specs.Padded.{padded};
 ghost use Rattle.lists.specs.Tabulate.{tabulate};
 ghost use Rattle.replay_rows.specs.Values.{wordAt, floatOf, shortOf, wholeOf};
-ghost use Rattle.replay_rows.specs.Parts.{wordsAt, valuesAt, over, firstDifference};
+ghost use Rattle.replay_rows.specs.Parts.{wordsAt, valuesAt, putAt, firstDifference};
 
 // ---- a row
 
@@ -127,7 +127,7 @@ pub fn bytes(row: &[u32; 1680], from: usize) -> [u8; 40]
 // A row with these words from a place on.
 pub fn put(row: [u32; 1680], from: usize, words: &[u32]) -> [u32; 1680]
     requires { ⌜ from + length (now words) ≤ 1680 ⌝ }
-    ensures { λ r. ⌜ r ≡ over from (now (words .entry)) row ⌝ }
+    ensures { λ r. ⌜ r ≡ putAt from (now (words .entry)) row ⌝ }
 {
     let n = words.len();
     let mut result = row;

@@ -2,11 +2,11 @@
 ghost use mathlib.Core.Path.{_≡_};
 ghost use Prim.Native.Nat.{_%_, _^_, _<_};
 ghost use lib.Signed.{mag};
-ghost use Rattle.replay_rows.specs.Values.{wordOf, floatOf, bitsOf, shortOf, wholeOf, lowOf, highOf, atMost};
+ghost use Rattle.replay_rows.specs.Values.{wordAsNumber, floatOf, bitsOf, shortOf, wholeOf, lowOf, highOf, atMost};
 
 // A word of its bytes, the lowest first.
 pub fn word(a: u8, b: u8, c: u8, d: u8) -> u32
-    ensures { λ r. ⌜ r ≡ wordOf a b c d ⌝ }
+    ensures { λ r. ⌜ r ≡ wordAsNumber a b c d ⌝ }
 {
     (a as u32) + 256 * (b as u32) + 65536 * (c as u32) + 16777216 * (d as u32)
 }

@@ -9,9 +9,9 @@ use Rattle.legend_range.specs.declared.TotalRange.{TotalRange}
 use Rattle.legend_range.specs.ValueRanges.{totalValueRange}
 use Rattle.legend_apply.specs.declared.ColorList.{ColorList}
 use Rattle.legend_apply.specs.ColorLists.{colorList}
-use Rattle.replay_rows.specs.Parts.{over, firstDifference}
+use Rattle.replay_rows.specs.Parts.{putAt, firstDifference}
 use Rattle.replay_rows.proofs.Rows.{same-row, row-same}
-use Rattle.replay_legends.specs.Asked.{legendOf}
+use Rattle.replay_legends.specs.Asked.{rowLegend}
 use Rattle.replay_calls.specs.Replies.{withAnswer, withRange}
 use Rattle.replay_calls.specs.Records.{withRecord}
 use Rattle.replay_calls.specs.Rows.{asked}
@@ -21,15 +21,15 @@ use Rattle.replay_worked.specs.Worked.{legendRow, workedIn, workedRow}
 
 worked-by : (row : List ℕ) → MadeLegend → List ℕ
 worked-by row m =
-    withPaintings (paintingsOf (m .legend) row) (over 392 (colorList (m .legend) .colors) (withRecord (m .legend) (withRange (totalValueRange (m .legend)) (withAnswer (m .answer) (asked row)))))
+    withPaintings (paintingsOf (m .legend) row) (putAt 392 (colorList (m .legend) .colors) (withRecord (m .legend) (withRange (totalValueRange (m .legend)) (withAnswer (m .answer) (asked row)))))
 
 pub row-is : (row : List ℕ) {m : MadeLegend} {a0 a1 a2 a3 a4 a5 : List ℕ} {range : TotalRange} {list : ColorList} {p : Paintings}
     → a0 ≡ asked row → a1 ≡ withAnswer (m .answer) a0 → range ≡ totalValueRange (m .legend) → a2 ≡ withRange range a1 → a3 ≡ withRecord (m .legend) a2
-    → list ≡ colorList (m .legend) → a4 ≡ over 392 (list .colors) a3 → p ≡ paintingsOf (m .legend) row → a5 ≡ withPaintings p a4 → m ≡ legendOf row → a5 ≡ legendRow row
+    → list ≡ colorList (m .legend) → a4 ≡ putAt 392 (list .colors) a3 → p ≡ paintingsOf (m .legend) row → a5 ≡ withPaintings p a4 → m ≡ rowLegend row → a5 ≡ legendRow row
 unfolding legendRow worked-by
 row-is row {m} e0 e1 er e2 e3 el e4 ep e5 em =
     e5
-    ∙ ap₂ withPaintings ep (e4 ∙ ap₂ (λ x w. over 392 (x .colors) w) el (e3 ∙ ap (withRecord (m .legend)) (e2 ∙ ap₂ (λ r w. withRange r w) er (e1 ∙ ap (withAnswer (m .answer)) e0))))
+    ∙ ap₂ withPaintings ep (e4 ∙ ap₂ (λ x w. putAt 392 (x .colors) w) el (e3 ∙ ap (withRecord (m .legend)) (e2 ∙ ap₂ (λ r w. withRange r w) er (e1 ∙ ap (withAnswer (m .answer)) e0))))
     ∙ ap (worked-by row) em
 
 module _ (row : List ℕ) where

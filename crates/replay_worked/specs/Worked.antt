@@ -6,8 +6,8 @@ use lib.Dec.{ltb, eqb}
 use lib.ListN.{getD}
 use Rattle.legend_range.specs.ValueRanges.{totalValueRange}
 use Rattle.legend_apply.specs.ColorLists.{colorList}
-use Rattle.replay_rows.specs.Parts.{over}
-use Rattle.replay_legends.specs.Asked.{legendOf}
+use Rattle.replay_rows.specs.Parts.{putAt}
+use Rattle.replay_legends.specs.Asked.{rowLegend}
 use Rattle.replay_calls.specs.Replies.{withAnswer, withRange}
 use Rattle.replay_calls.specs.Records.{withRecord}
 use Rattle.replay_calls.specs.Rows.{asked, paletteRow, hexRow, lookupRow, truncatedRow}
@@ -16,10 +16,10 @@ use Rattle.replay_paintings.specs.Paintings.{paintingsOf, withPaintings}
 -- the answer, the range of values, what the legend holds, its colours, its paintings
 unfoldable pub legendRow : (row : List ℕ) → List ℕ
 legendRow row =
-    let made = legendOf row in
+    let made = rowLegend row in
     let legend = made .legend in
     withPaintings (paintingsOf legend row)
-    (over 392 (colorList legend .colors)
+    (putAt 392 (colorList legend .colors)
     (withRecord legend
     (withRange (totalValueRange legend)
     (withAnswer (made .answer)

@@ -6,7 +6,7 @@ use replay_rows::part;
 use replay_rows::value;
 ghost use mathlib.Core.Path.{_≡_};
 ghost use lib.ListN.{getD};
-ghost use Rattle.run_replay.specs.Tally.{counted, kindOf, differing};
+ghost use Rattle.run_replay.specs.Tally.{tallied, rowKind, differing};
 
 // Reads a word; 0 where the file has ended.
 fn read_word(fd: i32) -> u32 {
@@ -17,7 +17,7 @@ fn read_word(fd: i32) -> u32 {
 
 // Compares a row with what we make of it.
 fn compare(number: u64, row: &[u32; 1680], rows: &mut [u64; 13], differ: &mut [u64; 13])
-    ensures { λ _. ⌜ (now (rows .exit) ≡ counted (kindOf (getD (now (row .entry)) 0 0)) (now (rows .entry))) × (now (differ .exit) ≡ differing (now (row .entry)) (now (differ .entry))) ⌝ }
+    ensures { λ _. ⌜ (now (rows .exit) ≡ tallied (rowKind (getD (now (row .entry)) 0 0)) (now (rows .entry))) × (now (differ .exit) ≡ differing (now (row .entry)) (now (differ .entry))) ⌝ }
 {
     let at = replay_worked::difference(row);
     let kind = tally::kind_of(row[0]);

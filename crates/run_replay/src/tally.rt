@@ -2,11 +2,11 @@
 ghost use mathlib.Core.Path.{_≡_};
 ghost use mathlib.Core.Bool.{cond};
 ghost use Prim.Native.Nat.{_<_};
-ghost use Rattle.run_replay.specs.Tally.{counted, kindOf, isSame, sumTo};
+ghost use Rattle.run_replay.specs.Tally.{tallied, rowKind, isSame, sumTo};
 
 // The kind of a row, and 12 for one that is malformed.
 pub fn kind_of(word: u32) -> usize
-    ensures { λ r. ⌜ (r ≡ kindOf word) × (r < 13) ⌝ }
+    ensures { λ r. ⌜ (r ≡ rowKind word) × (r < 13) ⌝ }
 {
     if word < 12 { word as usize } else { 12 }
 }
@@ -21,7 +21,7 @@ pub fn is_same(kind: usize, at: usize) -> bool
 // One more row of a kind.
 pub fn note(kind: usize, same: bool, rows: &mut [u64; 13], differ: &mut [u64; 13])
     requires { ⌜ kind < 13 ⌝ }
-    ensures { λ _. ⌜ (now (rows .exit) ≡ counted kind (now (rows .entry))) × (now (differ .exit) ≡ cond same (now (differ .entry)) (counted kind (now (differ .entry)))) ⌝ }
+    ensures { λ _. ⌜ (now (rows .exit) ≡ tallied kind (now (rows .entry))) × (now (differ .exit) ≡ cond same (now (differ .entry)) (tallied kind (now (differ .entry)))) ⌝ }
 {
     rows[kind] = std::num::wrapping_add_u64(rows[kind], 1);
     if !same {

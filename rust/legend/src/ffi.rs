@@ -146,7 +146,7 @@ pub struct LegendRecord {
 /// What is neither an array of a legend nor its bands: those are lent and passed beside it.
 #[derive(Debug, Clone, Copy, PartialEq)]
 #[repr(C)]
-pub struct LegendHead {
+pub struct LegendView {
     /// The kind.
     pub kind: u32,
     /// The settings.
@@ -266,8 +266,8 @@ impl LegendRecord {
 
     /// The legend without its arrays and bands.
     #[inline]
-    pub const fn head(&self) -> LegendHead {
-        LegendHead {
+    pub const fn view(&self) -> LegendView {
+        LegendView {
             kind: self.kind,
             settings: self.settings,
             start: self.linear.start,
@@ -369,8 +369,8 @@ unsafe extern "C" {
         end: i64,
         settings: LegendSettings,
     ) -> LegendMade;
-    fn legend_lent_color_for_f32(
-        head: LegendHead,
+    fn legend_view_color_for_f32(
+        view: LegendView,
         banded: LegendBanded,
         cmap: *const [Color; 256],
         keys: *const [i64; 256],
@@ -380,8 +380,8 @@ unsafe extern "C" {
         nodata_given: u32,
         nodata: f32,
     ) -> LegendColor;
-    fn legend_lent_color_for_u8(
-        head: LegendHead,
+    fn legend_view_color_for_u8(
+        view: LegendView,
         banded: LegendBanded,
         cmap: *const [Color; 256],
         keys: *const [i64; 256],
@@ -391,8 +391,8 @@ unsafe extern "C" {
         nodata_given: u32,
         nodata: u8,
     ) -> LegendColor;
-    fn legend_lent_color_for_i16(
-        head: LegendHead,
+    fn legend_view_color_for_i16(
+        view: LegendView,
         banded: LegendBanded,
         cmap: *const [Color; 256],
         keys: *const [i64; 256],
@@ -402,8 +402,8 @@ unsafe extern "C" {
         nodata_given: u32,
         nodata: i16,
     ) -> LegendColor;
-    fn legend_lent_paint_f32(
-        head: LegendHead,
+    fn legend_view_paint_f32(
+        view: LegendView,
         banded: LegendBanded,
         cmap: *const [Color; 256],
         keys: *const [i64; 256],
@@ -416,8 +416,8 @@ unsafe extern "C" {
         out: *mut Color,
         out_length: usize,
     ) -> LegendAnswer;
-    fn legend_lent_paint_u8(
-        head: LegendHead,
+    fn legend_view_paint_u8(
+        view: LegendView,
         banded: LegendBanded,
         cmap: *const [Color; 256],
         keys: *const [i64; 256],
@@ -430,8 +430,8 @@ unsafe extern "C" {
         out: *mut Color,
         out_length: usize,
     ) -> LegendAnswer;
-    fn legend_lent_paint_i16(
-        head: LegendHead,
+    fn legend_view_paint_i16(
+        view: LegendView,
         banded: LegendBanded,
         cmap: *const [Color; 256],
         keys: *const [i64; 256],
@@ -444,8 +444,8 @@ unsafe extern "C" {
         out: *mut Color,
         out_length: usize,
     ) -> LegendAnswer;
-    fn legend_lent_paint_lanes_f32(
-        head: LegendHead,
+    fn legend_view_paint_lanes_f32(
+        view: LegendView,
         banded: LegendBanded,
         cmap: *const [Color; 256],
         keys: *const [i64; 256],
@@ -461,8 +461,8 @@ unsafe extern "C" {
         scratch: *mut Color,
         scratch_length: usize,
     ) -> LegendAnswer;
-    fn legend_lent_paint_lanes_u8(
-        head: LegendHead,
+    fn legend_view_paint_lanes_u8(
+        view: LegendView,
         banded: LegendBanded,
         cmap: *const [Color; 256],
         keys: *const [i64; 256],
@@ -478,8 +478,8 @@ unsafe extern "C" {
         scratch: *mut Color,
         scratch_length: usize,
     ) -> LegendAnswer;
-    fn legend_lent_paint_lanes_i16(
-        head: LegendHead,
+    fn legend_view_paint_lanes_i16(
+        view: LegendView,
         banded: LegendBanded,
         cmap: *const [Color; 256],
         keys: *const [i64; 256],
@@ -637,11 +637,11 @@ pub fn create_categoric_for_value_range_from_ramp(
     unsafe { legend_create_categoric_for_value_range_from_ramp(ramp, start, end, settings) }
 }
 
-/// A call with a legend lent: its head and its bands by value, its arrays by reference.
-macro_rules! lent {
+/// A call with a legend lent: its view and its bands by value, its arrays by reference.
+macro_rules! borrowed {
     ($call:ident($legend:ident, $($argument:expr),*)) => {
         $call(
-            $legend.head(),
+            $legend.view(),
             $legend.banded,
             &$legend.linear.cmap,
             &$legend.categoric.keys,
@@ -654,12 +654,12 @@ macro_rules! lent {
 
 /// The three calls for a type of sample.
 macro_rules! sample_calls {
-    ($type:ty, $color:ident by $lent_color:ident, $paint:ident by $lent_paint:ident, $lanes:ident by $lent_lanes:ident) => {
+    ($type:ty, $color:ident by $view_color:ident, $paint:ident by $view_paint:ident, $lanes:ident by $view_lanes:ident) => {
         /// The colour of a sample of this type.
         #[inline]
         pub fn $color(legend: &LegendRecord, value: $type, nodata_given: u32, nodata: $type) -> LegendColor {
             // SAFETY: the references are to the arrays that the call reads, and it keeps none.
-            unsafe { lent!($lent_color(legend, value, nodata_given, nodata)) }
+            unsafe { borrowed!($view_color(legend, value, nodata_given, nodata)) }
         }
 
         /// Paints a raster of this type sample by sample.
@@ -674,7 +674,7 @@ macro_rules! sample_calls {
             let (pixels, room) = (src.len(), out.len());
             // SAFETY: each pointer and the length beside it are one slice's, and the references are to the arrays that
             // the call reads; what is written through is borrowed alone, and the call keeps none.
-            unsafe { lent!($lent_paint(legend, src.as_ptr(), pixels, nodata_given, nodata, out.as_mut_ptr(), room)) }
+            unsafe { borrowed!($view_paint(legend, src.as_ptr(), pixels, nodata_given, nodata, out.as_mut_ptr(), room)) }
         }
 
         /// Paints a raster of this type in lanes.
@@ -691,28 +691,28 @@ macro_rules! sample_calls {
             let (pixels, room, words) = (src.len(), out.len(), scratch.len());
             let (src, out, scratch) = (src.as_ptr(), out.as_mut_ptr(), scratch.as_mut_ptr());
             // SAFETY: as for plain painting; `out` and `scratch` are borrowed alone, so they do not overlap.
-            unsafe { lent!($lent_lanes(legend, lanes, src, pixels, nodata_given, nodata, out, room, scratch, words)) }
+            unsafe { borrowed!($view_lanes(legend, lanes, src, pixels, nodata_given, nodata, out, room, scratch, words)) }
         }
     };
 }
 
 sample_calls!(
     f32,
-    color_for_f32 by legend_lent_color_for_f32,
-    paint_f32 by legend_lent_paint_f32,
-    paint_lanes_f32 by legend_lent_paint_lanes_f32
+    color_for_f32 by legend_view_color_for_f32,
+    paint_f32 by legend_view_paint_f32,
+    paint_lanes_f32 by legend_view_paint_lanes_f32
 );
 sample_calls!(
     u8,
-    color_for_u8 by legend_lent_color_for_u8,
-    paint_u8 by legend_lent_paint_u8,
-    paint_lanes_u8 by legend_lent_paint_lanes_u8
+    color_for_u8 by legend_view_color_for_u8,
+    paint_u8 by legend_view_paint_u8,
+    paint_lanes_u8 by legend_view_paint_lanes_u8
 );
 sample_calls!(
     i16,
-    color_for_i16 by legend_lent_color_for_i16,
-    paint_i16 by legend_lent_paint_i16,
-    paint_lanes_i16 by legend_lent_paint_lanes_i16
+    color_for_i16 by legend_view_color_for_i16,
+    paint_i16 by legend_view_paint_i16,
+    paint_lanes_i16 by legend_view_paint_lanes_i16
 );
 
 /// The whole range of the values of a legend.

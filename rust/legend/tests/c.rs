@@ -57,7 +57,7 @@ fn layouts() -> Vec<Layout> {
         LegendBanded { bands, count }
         LegendCategoric { keys, colors, count, lookup, lookup_count }
         LegendRecord { kind, settings, linear, banded, categoric }
-        LegendHead { kind, settings, start, end, count, lookup_count }
+        LegendView { kind, settings, start, end, count, lookup_count }
         LegendMade { answer, legend }
         LegendRange { start, end }
         LegendRanges { ranges, count }

@@ -2,7 +2,7 @@
 use borrow.Author.Needs.{needs}
 use Rattle.lists.proofs.LanesOf.{lanes-all}
 use Rattle.colormapper.proofs.MaskedLanes.{masked-lanes}
-use Rattle.banded_rule.specs.Packed.{packed}
+use Rattle.banded_rule.specs.forms.Columns.{fromColumns}
 use Rattle.banded_rule.specs.PlainRule.{plainColor}
 use Rattle.banded_chunk.proofs.words_plain.Statement.{statement}
 use Rattle.banded_chunk.proofs.words_plain.Tie as tie
@@ -17,7 +17,7 @@ returns : tie.Need-returns
 returns c =
     let a = c .before .before .args in
     let p = a .p in
-    masked-lanes (p .exclusions) (p .unmappable .nodata) (plainColor (packed (a .starts .now) (a .ends .now) (a .colors .now) (p .count)) (p .unmappable))
+    masked-lanes (p .exclusions) (p .unmappable .nodata) (plainColor (fromColumns (a .starts .now) (a .ends .now) (a .colors .now) (p .count)) (p .unmappable))
     (a .v) (c .before .colors-for-numeric-values .result)
     (lanes-all 0 0 (search needs) (c .before .colors-for-numeric-values .ensures)) (c .masked-simd .ensures)
 

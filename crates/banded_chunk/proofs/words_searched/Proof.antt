@@ -1,7 +1,7 @@
 -- `words_searched` meets its contract. Assumes nothing.
 use borrow.Author.Needs.{needs}
 use Rattle.colormapper.proofs.MaskedLanes.{masked-lanes}
-use Rattle.banded_rule.specs.Packed.{packed}
+use Rattle.banded_rule.specs.forms.Columns.{fromColumns}
 use Rattle.banded_rule.specs.PlainRule.{plainColor}
 use Rattle.banded_chunk.proofs.words_searched.Statement.{statement}
 use Rattle.banded_chunk.proofs.words_searched.Tie as tie
@@ -16,7 +16,7 @@ returns : tie.Need-returns
 returns c =
     let a = c .before .before .args in
     let p = a .p in
-    masked-lanes (p .exclusions) (p .unmappable .nodata) (plainColor (packed (a .starts .now) (a .ends .now) (a .colors .now) (p .count)) (p .unmappable))
+    masked-lanes (p .exclusions) (p .unmappable .nodata) (plainColor (fromColumns (a .starts .now) (a .ends .now) (a .colors .now) (p .count)) (p .unmappable))
     (a .v) (c .before .colors-for-numeric-values .result)
     (c .before .colors-for-numeric-values .ensures) (c .masked-simd .ensures)
 

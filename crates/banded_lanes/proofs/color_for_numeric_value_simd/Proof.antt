@@ -5,14 +5,14 @@ use mathlib.Core.List.{List}
 use lib.ListN.{take}
 use Rattle.lists.specs.Padded.{padded}
 use borrow.Author.Needs.{needs}
-use Rattle.banded_rule.specs.Packed.{packed}
+use Rattle.banded_rule.specs.forms.Columns.{fromColumns}
 use Rattle.banded_lanes.specs.LaneRule.{laneColors}
 use Rattle.banded_lanes.proofs.color_for_numeric_value_simd.Statement.{statement}
 use Rattle.banded_lanes.proofs.color_for_numeric_value_simd.Tie as tie
 
 -- the colours at n lanes, and the same at a lane count that is known to be n
 abbrev colored : tie.Start → ℕ → List ℕ
-colored c n = let a = c .args in padded 0 16 (laneColors (packed (a .starts .now) (a .ends .now) (a .colors .now) (a .count)) (a .u) (take n (a .value)))
+colored c n = let a = c .args in padded 0 16 (laneColors (fromColumns (a .starts .now) (a .ends .now) (a .colors .now) (a .count)) (a .u) (take n (a .value)))
 
 at : (n : ℕ) (c : tie.Start) {r : List ℕ} → c .args .lanes ≡ n → r ≡ colored c n → r ≡ colored c (c .args .lanes)
 at n c e h = h ∙ sym (ap (colored c) e)
@@ -20,35 +20,35 @@ at n c e h = h ∙ sym (ap (colored c) e)
 scanned-requires : tie.Need-scanned-requires
 scanned-requires c κs = search needs
 
-settled-requires : tie.Need-settled-requires
-settled-requires c κs = search needs
+apply-lane-edges-requires : tie.Need-apply-lane-edges-requires
+apply-lane-edges-requires c κs = search needs
 
 returns : tie.Need-returns
-returns c = at 4 (c .before .before .before) (c .before .before .if1 .taken) (c .settled .ensures)
+returns c = at 4 (c .before .before .before) (c .before .before .if1 .taken) (c .apply-lane-edges .ensures)
 
 scanned-requires-2 : tie.Need-scanned-requires-2
 scanned-requires-2 c κs = search needs
 
-settled-requires-2 : tie.Need-settled-requires-2
-settled-requires-2 c κs = search needs
+apply-lane-edges-requires-2 : tie.Need-apply-lane-edges-requires-2
+apply-lane-edges-requires-2 c κs = search needs
 
 returns-2 : tie.Need-returns-2
-returns-2 c = at 8 (c .before .before .before .before) (c .before .before .if2 .taken) (c .settled2 .ensures)
+returns-2 c = at 8 (c .before .before .before .before) (c .before .before .if2 .taken) (c .apply-lane-edges2 .ensures)
 
 scanned-requires-3 : tie.Need-scanned-requires-3
 scanned-requires-3 c κs = search needs
 
-settled-requires-3 : tie.Need-settled-requires-3
-settled-requires-3 c κs = search needs
+apply-lane-edges-requires-3 : tie.Need-apply-lane-edges-requires-3
+apply-lane-edges-requires-3 c κs = search needs
 
 returns-3 : tie.Need-returns-3
-returns-3 c = at 16 (c .before .before .before .before .before) (c .before .before .if3 .taken) (c .settled3 .ensures)
+returns-3 c = at 16 (c .before .before .before .before .before) (c .before .before .if3 .taken) (c .apply-lane-edges3 .ensures)
 
 scanned-requires-4 : tie.Need-scanned-requires-4
 scanned-requires-4 c κs = search needs
 
-settled-requires-4 : tie.Need-settled-requires-4
-settled-requires-4 c κs = search needs
+apply-lane-edges-requires-4 : tie.Need-apply-lane-edges-requires-4
+apply-lane-edges-requires-4 c κs = search needs
 
 returns-4 : tie.Need-returns-4
 returns-4 c = search needs
@@ -58,14 +58,14 @@ color-for-numeric-value-simd-spec =
     tie.close
     (tie.spec
     scanned-requires
-    settled-requires
+    apply-lane-edges-requires
     returns
     scanned-requires-2
-    settled-requires-2
+    apply-lane-edges-requires-2
     returns-2
     scanned-requires-3
-    settled-requires-3
+    apply-lane-edges-requires-3
     returns-3
     scanned-requires-4
-    settled-requires-4
+    apply-lane-edges-requires-4
     returns-4)

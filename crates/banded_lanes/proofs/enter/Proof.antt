@@ -7,7 +7,7 @@ use lib.ListN.{getD}
 use lib.Ieee.{nan}
 use borrow.Author.Needs.{needs}
 use Rattle.banded_columns.specs.Band.{holds}
-use Rattle.banded_lanes.specs.Parts.{allBelow}
+use Rattle.banded_lanes.specs.forms.Scanning.{allBelow}
 use Rattle.lists.proofs.LanesOf.{lanes-length}
 use Rattle.banded_lanes.proofs.Updating.{Updating, updating-start, updating-turn, updating-end}
 use Rattle.banded_lanes.proofs.Chunk.{below-more}

@@ -12,14 +12,14 @@ Inv-loop lanes starts ends colors count nodata value result₀ inside₀ i₀ re
 abbrev μ-loop : tie.MeasureT-loop
 μ-loop lanes starts ends colors count nodata value result₀ inside₀ i₀ result inside i = count - i
 
-starting-colors-requires : tie.Need-starting-colors-requires Inv-loop μ-loop
-starting-colors-requires c κs = search needs
+nodata-lanes-requires : tie.Need-nodata-lanes-requires Inv-loop μ-loop
+nodata-lanes-requires c κs = search needs
 
 loop-holds : tie.Need-loop-holds Inv-loop μ-loop
 loop-holds c =
     let a = c .before .args in
-    scanning-start (a .starts .now) (a .ends .now) (a .colors .now) (a .count) (a .nodata) (a .lanes) (a .t7) (c .starting-colors .result) (search needs)
-    (search needs) (c .starting-colors .ensures)
+    scanning-start (a .starts .now) (a .ends .now) (a .colors .now) (a .count) (a .nodata) (a .lanes) (a .t7) (c .nodata-lanes .result) (search needs)
+    (search needs) (c .nodata-lanes .ensures)
 
 band-at-requires : tie.Need-band-at-requires Inv-loop μ-loop
 band-at-requires c κs = search needs
@@ -63,7 +63,7 @@ scanned-spec =
     (tie.spec
     Inv-loop
     μ-loop
-    starting-colors-requires
+    nodata-lanes-requires
     loop-holds
     band-at-requires
     enter-requires

@@ -2,7 +2,7 @@
 use mathlib.Core.Path.{sym}
 use lib.Ieee.{ofBits}
 use Rattle.lists.proofs.Padding.{padded-none}
-use Rattle.banded_lists.specs.Places.{blankBand}
+use Rattle.banded_lists.specs.Padded.{blankBand}
 use Rattle.banded_lists.proofs.no_bands.Statement.{statement}
 use Rattle.banded_lists.proofs.no_bands.Tie as tie
 

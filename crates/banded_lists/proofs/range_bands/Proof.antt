@@ -5,7 +5,7 @@ use native.Mathlib.Omega.{arith}
 use lib.ListN.{length, getD, take, length-take}
 use borrow.Author.Needs.{needs}
 use Rattle.lists.proofs.Padding.{Storing, storing-turn, storing-end}
-use Rattle.banded_lists.specs.Places.{blankBand, placesOf}
+use Rattle.banded_lists.specs.Padded.{blankBand, paddedBands}
 use Rattle.banded_lists.specs.ManualRanges.{bandOf}
 use Rattle.banded_lists.proofs.Storing.{no-bands-stored}
 use Rattle.banded_lists.proofs.Manual.{range-bands, range-length}
@@ -61,7 +61,7 @@ returns c =
     let g : length (a .t1) ≡ 64 = search needs in
     let f : length (a .t3) ≡ 256 = search needs in
     let n : length (take (a .count) (a .t1)) ≡ a .count = omega (arith, length-take (a .count) (a .t1)) in
-    (storing-end (c .before .loop .inv .1) (omega arith) ∙ ap placesOf (range-bands noRange (a .count) (a .t1) (a .t3) (omega arith) (omega arith)), range-length (take (a .count) (a .t1)) (a .t3) (omega arith) ∙ n)
+    (storing-end (c .before .loop .inv .1) (omega arith) ∙ ap paddedBands (range-bands noRange (a .count) (a .t1) (a .t3) (omega arith) (omega arith)), range-length (take (a .count) (a .t1)) (a .t3) (omega arith) ∙ n)
 
 pub range-bands-spec : {M : Type 1} → statement M
 range-bands-spec =

@@ -6,8 +6,8 @@ use Rattle.lists.proofs.LanesOf.{lane-at}
 use Rattle.lists.proofs.Padding.{padded-part}
 use Rattle.painting.proofs.Lists.{lanes-list}
 use Rattle.painting.proofs.Whole.{chunk-is}
-use Rattle.banded_rule.specs.Packed.{packed}
-use Rattle.banded_chunk.specs.Rules.{plainSample}
+use Rattle.banded_rule.specs.forms.Columns.{fromColumns}
+use Rattle.banded_chunk.specs.forms.Samples.{plainSample}
 use borrow.Author.Needs.{needs}
 use Rattle.banded_paint.proofs.block.Statement.{statement}
 use Rattle.banded_paint.proofs.block.Tie as tie
@@ -29,7 +29,7 @@ returns c =
     let s = c .before .before .before .before .before in
     let w = c .before .before .before .before .words in
     let a = s .before .before .before .args in
-    let rule = plainSample (packed (a .starts .now) (a .ends .now) (a .colors .now) (a .p .count)) (a .p) in
+    let rule = plainSample (fromColumns (a .starts .now) (a .ends .now) (a .colors .now) (a .p .count)) (a .p) in
     let words = lanes-list nan 0 rule 16 (w .result) (s .load .result) (search needs) (search needs) (lane-at (w .ensures) 0) in
     chunk-is _ _ _ _ _ 16 (w .result) (s .load .result) refl (c .before .before .store .ensures) words
     (padded-part _ 16 (a .src .now) (a .base) 16 (s .load .ensures) (omega arith))

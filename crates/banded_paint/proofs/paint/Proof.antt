@@ -7,19 +7,19 @@ use lib.ListN.{length-map}
 use Rattle.painting.proofs.Steps.{InChunks, chunks-start, chunk-turn, chunks-end}
 use Rattle.painting.proofs.Splitting.{plain-in-blocks}
 use mathlib.Core.List.{map}
-use Rattle.banded_rule.specs.Packed.{packed}
-use Rattle.banded_chunk.specs.Rules.{plainSample}
+use Rattle.banded_rule.specs.forms.Columns.{fromColumns}
+use Rattle.banded_chunk.specs.forms.Samples.{plainSample}
 use Rattle.banded_paint.proofs.paint.Statement.{statement}
 use Rattle.banded_paint.proofs.paint.Tie as tie
 
 abbrev Inv-loop : tie.InvT-loop
-Inv-loop starts ends colors p src out₀ searched n base₀ out base = InChunks 16 (map (plainSample (packed starts ends colors (p .count)) p)) (plainSample (packed starts ends colors (p .count)) p) src base out
+Inv-loop starts ends colors p src out₀ searched n base₀ out base = InChunks 16 (map (plainSample (fromColumns starts ends colors (p .count)) p)) (plainSample (fromColumns starts ends colors (p .count)) p) src base out
 
 abbrev μ-loop : tie.MeasureT-loop
 μ-loop starts ends colors p src out₀ searched n base₀ out base = n - base
 
-apart-requires : tie.Need-apart-requires Inv-loop μ-loop
-apart-requires c κs = search needs
+ascending-disjoint-requires : tie.Need-ascending-disjoint-requires Inv-loop μ-loop
+ascending-disjoint-requires c κs = search needs
 
 loop-holds : tie.Need-loop-holds Inv-loop μ-loop
 loop-holds c = chunks-start (search needs)
@@ -28,7 +28,7 @@ sub-loop : tie.Need-sub-loop Inv-loop μ-loop
 sub-loop c = search needs
 
 block-requires : tie.Need-block-requires Inv-loop μ-loop
-block-requires c κs = (search needs, λ h. sym (c .before .before .before .apart .ensures) ∙ h, omega arith, omega arith)
+block-requires c κs = (search needs, λ h. sym (c .before .before .before .ascending-disjoint .ensures) ∙ h, omega arith, omega arith)
 
 add-base : tie.Need-add-base Inv-loop μ-loop
 add-base c = search needs
@@ -40,7 +40,7 @@ loop-again : tie.Need-loop-again Inv-loop μ-loop
 loop-again c = chunk-turn (c .before .before .before .before .before .loop .inv) (omega arith) (omega arith) (λ xs. length-map xs _) (c .before .before .block .ensures)
 
 rest-requires : tie.Need-rest-requires Inv-loop μ-loop
-rest-requires c κs = (search needs, λ h. sym (c .before .before .before .apart .ensures) ∙ h, search needs, omega arith, search needs)
+rest-requires c κs = (search needs, λ h. sym (c .before .before .before .ascending-disjoint .ensures) ∙ h, search needs, omega arith, search needs)
 
 same-length : tie.Need-same-length Inv-loop μ-loop
 same-length c = search needs
@@ -54,7 +54,7 @@ paint-spec =
     (tie.spec
     Inv-loop
     μ-loop
-    apart-requires
+    ascending-disjoint-requires
     loop-holds
     sub-loop
     block-requires

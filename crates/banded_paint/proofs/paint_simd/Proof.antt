@@ -13,10 +13,10 @@ use Rattle.banded_lanes.proofs.LaneLaw.{lane-length}
 use Rattle.painting.proofs.Refusals.{lane-sizes}
 use Rattle.painting.proofs.Steps.{InChunks, chunks-start, chunk-turn, chunks-end}
 use Rattle.painting.proofs.Masking.{length-masked}
-use Rattle.banded_rule.specs.Packed.{packed}
-use Rattle.banded_search.specs.Apart.{apart}
-use Rattle.banded_chunk.specs.Rules.{plainSample, laneChunk}
-use Rattle.banded_chunk.specs.Search.{Searchable}
+use Rattle.banded_rule.specs.forms.Columns.{fromColumns}
+use Rattle.banded_search.specs.forms.Ascending.{apart}
+use Rattle.banded_chunk.specs.forms.Samples.{plainSample, laneChunk}
+use Rattle.banded_chunk.specs.forms.Searchable.{Searchable}
 use Rattle.banded_paint.proofs.paint_simd.Statement.{statement}
 use Rattle.banded_paint.proofs.paint_simd.Tie as tie
 
@@ -26,13 +26,13 @@ both-asked {count = count} {asked = true} e h = record { some = ltb-true 0 count
 both-asked {asked = false} e h = absurd (subst T (sym h) tt)
 
 abbrev Inv-loop : tie.InvT-loop
-Inv-loop starts ends colors p l src out₀ searched n base₀ out base = InChunks l (laneChunk (packed starts ends colors (p .count)) p) (plainSample (packed starts ends colors (p .count)) p) src base out
+Inv-loop starts ends colors p l src out₀ searched n base₀ out base = InChunks l (laneChunk (fromColumns starts ends colors (p .count)) p) (plainSample (fromColumns starts ends colors (p .count)) p) src base out
 
 abbrev μ-loop : tie.MeasureT-loop
 μ-loop starts ends colors p l src out₀ searched n base₀ out base = n - base
 
-apart-requires : tie.Need-apart-requires Inv-loop μ-loop
-apart-requires c κs = search needs
+ascending-disjoint-requires : tie.Need-ascending-disjoint-requires Inv-loop μ-loop
+ascending-disjoint-requires c κs = search needs
 
 loop-holds : tie.Need-loop-holds Inv-loop μ-loop
 loop-holds c = chunks-start (search needs)
@@ -43,7 +43,7 @@ sub-loop c = search needs
 chunk-searched-requires : tie.Need-chunk-searched-requires Inv-loop μ-loop
 chunk-searched-requires c κs =
     let s = c .before .before .before .before .before .before .before .before in
-    (search needs, both-asked (c .before .before .before .before .before .apart .ensures) (c .before .if1 .taken), s .pre .1, omega arith, omega arith)
+    (search needs, both-asked (c .before .before .before .before .before .ascending-disjoint .ensures) (c .before .if1 .taken), s .pre .1, omega arith, omega arith)
 
 chunk-requires : tie.Need-chunk-requires Inv-loop μ-loop
 chunk-requires c κs = (search needs, c .before .before .before .before .before .before .before .before .pre .1, omega arith, omega arith)
@@ -60,7 +60,7 @@ loop-again c =
     (⊎-elim (λ w. w .5 ∙ w .2 .ensures) (λ w. w .5 ∙ w .2 .ensures) (c .if1 .came))
 
 rest-requires : tie.Need-rest-requires Inv-loop μ-loop
-rest-requires c κs = (search needs, λ h. both-asked (c .before .before .before .before .apart .ensures) h .far, search needs, omega (arith, lane-sizes (c .before .before .before .before .before .before .before .args .l) (c .before .before .before .before .before .before .before .pre .1) .1), search needs)
+rest-requires c κs = (search needs, λ h. both-asked (c .before .before .before .before .ascending-disjoint .ensures) h .far, search needs, omega (arith, lane-sizes (c .before .before .before .before .before .before .before .args .l) (c .before .before .before .before .before .before .before .pre .1) .1), search needs)
 
 same-length : tie.Need-same-length Inv-loop μ-loop
 same-length c = search needs
@@ -74,7 +74,7 @@ paint-simd-spec =
     (tie.spec
     Inv-loop
     μ-loop
-    apart-requires
+    ascending-disjoint-requires
     loop-holds
     sub-loop
     chunk-searched-requires

@@ -7,8 +7,8 @@ use Rattle.lists.proofs.LanesOf.{lane-at}
 use Rattle.lists.proofs.Padding.{padded-part}
 use Rattle.painting.proofs.Lists.{lanes-list}
 use Rattle.painting.proofs.Whole.{rest-is, rest-none}
-use Rattle.banded_rule.specs.Packed.{packed}
-use Rattle.banded_chunk.specs.Rules.{plainSample}
+use Rattle.banded_rule.specs.forms.Columns.{fromColumns}
+use Rattle.banded_chunk.specs.forms.Samples.{plainSample}
 use borrow.Author.Needs.{needs}
 use Rattle.banded_paint.proofs.rest.Statement.{statement}
 use Rattle.banded_paint.proofs.rest.Tie as tie
@@ -36,7 +36,7 @@ returns-2 c =
     let l = c .before .before .before .before .before .load in
     let w = c .before .before .before .before .words in
     let a = c .before .before .before .before .before .before .before .before .before .args in
-    let rule = plainSample (packed (a .starts .now) (a .ends .now) (a .colors .now) (a .p .count)) (a .p) in
+    let rule = plainSample (fromColumns (a .starts .now) (a .ends .now) (a .colors .now) (a .p .count)) (a .p) in
     let words = lanes-list nan 0 rule 16 (w .result) (l .result) (search needs) (search needs) (lane-at (w .ensures) 0) in
     let part = padded-part _ 16 (a .src .now) (a .base) (length (a .src .now) - a .base) (l .ensures) (omega arith) in
     rest-is rule (a .src .now) (a .out .now) (a .base) 16 (w .result) (l .result) (omega arith) (omega arith) (omega arith) (c .before .before .store .ensures)

@@ -6,15 +6,15 @@ use lib.ListN.{drop}
 use borrow.Author.Needs.{needs}
 use Rattle.banded_columns.specs.declared.LegendBand.{LegendBand}
 use Rattle.banded_columns.specs.Band.{holds}
-use Rattle.banded_rule.specs.Packed.{bandAt, packed}
+use Rattle.banded_rule.specs.forms.Columns.{bandAt, fromColumns}
 use Rattle.banded_rule.specs.PlainRule.{plainColor}
-use Rattle.banded_rule.specs.Parts.{firstColor, edgeColor}
+use Rattle.banded_rule.specs.forms.Steps.{firstColor, edgeColor}
 use Rattle.banded_rule.proofs.Forms.{plain-packed, plain-none, first-held, first-passed, first-end}
 use Rattle.banded_rule.proofs.color_for_numeric_value.Statement.{statement}
 use Rattle.banded_rule.proofs.color_for_numeric_value.Tie as tie
 
 abbrev Inv-loop : tie.InvT-loop
-Inv-loop starts ends colors count u value i₀ i = (i ≤ count) × (firstColor (drop i (packed starts ends colors count)) value (edgeColor (bandAt starts ends colors 0) (bandAt starts ends colors (count - 1)) u value) ≡ plainColor (packed starts ends colors count) u value)
+Inv-loop starts ends colors count u value i₀ i = (i ≤ count) × (firstColor (drop i (fromColumns starts ends colors count)) value (edgeColor (bandAt starts ends colors 0) (bandAt starts ends colors (count - 1)) u value) ≡ plainColor (fromColumns starts ends colors count) u value)
 
 abbrev μ-loop : tie.MeasureT-loop
 μ-loop starts ends colors count u value i₀ i = count - i

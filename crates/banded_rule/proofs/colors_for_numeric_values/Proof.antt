@@ -5,8 +5,8 @@ use lib.ListN.{getD-replicate, getD}
 use lib.Ieee.{nan}
 use borrow.Author.Needs.{needs}
 use Rattle.banded_columns.specs.declared.LegendBand.{LegendBand}
-use Rattle.banded_rule.specs.Packed.{packed}
-use Rattle.banded_rule.specs.Parts.{firstColor, edgeColor}
+use Rattle.banded_rule.specs.forms.Columns.{fromColumns}
+use Rattle.banded_rule.specs.forms.Steps.{firstColor, edgeColor}
 use Rattle.banded_rule.proofs.Forms.{plain-none, plain-packed}
 use Rattle.banded_rule.proofs.colors_for_numeric_values.Statement.{statement}
 use Rattle.banded_rule.proofs.colors_for_numeric_values.Tie as tie
@@ -30,7 +30,7 @@ first-colors-requires : tie.Need-first-colors-requires
 first-colors-requires c κs = search needs
 
 returns-2 : tie.Need-returns-2
-returns-2 c = let a = c .before .before .before .before .before .args in λ k q. c .first-colors .ensures k q ∙ ap (firstColor (packed (a .starts .now) (a .ends .now) (a .colors .now) (a .count)) (getD (a .value) k nan)) (c .before .edge-colors .ensures k q ∙ ap₂ (λ (x y : LegendBand). edgeColor x y (a .u) (getD (a .value) k nan)) (c .before .before .before .band-at .ensures) (c .before .before .band-at2 .ensures)) ∙ sym (plain-packed (a .starts .now) (a .ends .now) (a .colors .now) (a .count) (a .u) (getD (a .value) k nan) (omega arith))
+returns-2 c = let a = c .before .before .before .before .before .args in λ k q. c .first-colors .ensures k q ∙ ap (firstColor (fromColumns (a .starts .now) (a .ends .now) (a .colors .now) (a .count)) (getD (a .value) k nan)) (c .before .edge-colors .ensures k q ∙ ap₂ (λ (x y : LegendBand). edgeColor x y (a .u) (getD (a .value) k nan)) (c .before .before .before .band-at .ensures) (c .before .before .band-at2 .ensures)) ∙ sym (plain-packed (a .starts .now) (a .ends .now) (a .colors .now) (a .count) (a .u) (getD (a .value) k nan) (omega arith))
 
 pub colors-for-numeric-values-spec : {M : Type 1} → statement M
 colors-for-numeric-values-spec =

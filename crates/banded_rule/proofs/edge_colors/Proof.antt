@@ -5,7 +5,7 @@ use lib.ListN.{getD}
 use lib.Ieee.{nan}
 use borrow.Author.Needs.{needs}
 use Rattle.lists.proofs.Filling.{Filling, filling-start, filling-turn, filling-end}
-use Rattle.banded_rule.specs.Parts.{edgeColor}
+use Rattle.banded_rule.specs.forms.Steps.{edgeColor}
 use Rattle.banded_rule.proofs.edge_colors.Statement.{statement}
 use Rattle.banded_rule.proofs.edge_colors.Tie as tie
 

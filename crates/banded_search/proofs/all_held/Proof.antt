@@ -7,9 +7,9 @@ use native.Mathlib.Omega.{arith}
 use lib.Ieee.{lt, le, nan}
 use lib.ListN.{getD}
 use Rattle.banded_lanes.proofs.Chunk.{below-more}
-use Rattle.banded_lanes.specs.Parts.{allBelow}
+use Rattle.banded_lanes.specs.forms.Scanning.{allBelow}
 use Rattle.banded_search.proofs.Ascent.{and-and}
-use Rattle.banded_search.specs.Place.{heldAt}
+use Rattle.banded_search.specs.forms.Indices.{heldAt}
 use Rattle.banded_search.proofs.all_held.Statement.{statement}
 use Rattle.banded_search.proofs.all_held.Tie as tie
 

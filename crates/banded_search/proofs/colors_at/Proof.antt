@@ -6,7 +6,7 @@ use lib.ListN.{getD}
 use lib.Ieee.{nan}
 use Rattle.lists.proofs.Padding.{Storing, storing-start, storing-turn}
 use Rattle.lists.proofs.LanesOf.{lanes-stored}
-use Rattle.banded_search.specs.Place.{colorAt}
+use Rattle.banded_search.specs.forms.Indices.{colorAt}
 use Rattle.banded_search.proofs.colors_at.Statement.{statement}
 use Rattle.banded_search.proofs.colors_at.Tie as tie
 

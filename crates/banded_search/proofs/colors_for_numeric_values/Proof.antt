@@ -30,8 +30,8 @@ band-at-requires-2 c κs = search needs
 edge-colors-requires : tie.Need-edge-colors-requires
 edge-colors-requires c κs = search needs
 
-places-of-requires : tie.Need-places-of-requires
-places-of-requires c κs = search needs
+band-indices-requires : tie.Need-band-indices-requires
+band-indices-requires c κs = search needs
 
 colors-at-requires : tie.Need-colors-at-requires
 colors-at-requires c κs = search needs
@@ -43,7 +43,7 @@ returns-2 c =
     lanes-agree (c .colors-at .ensures)
     (λ k q.
     plain-at-place (a .starts .now) (a .ends .now) (a .colors .now) (a .count) (a .u) (getD (a .value) k nan) (omega arith) (s .pre .1)
-    (lane-at (c .before .places-of .ensures .counted) 0 k q)
+    (lane-at (c .before .band-indices .ensures .counted) 0 k q)
     (c .before .before .before .before .band-at .ensures) (c .before .before .before .band-at2 .ensures) (c .before .before .edge-colors .ensures k q))
 
 pub colors-for-numeric-values-spec : {M : Type 1} → statement M
@@ -55,6 +55,6 @@ colors-for-numeric-values-spec =
     sub-band-at
     band-at-requires-2
     edge-colors-requires
-    places-of-requires
+    band-indices-requires
     colors-at-requires
     returns-2)

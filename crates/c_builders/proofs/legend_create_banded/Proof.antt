@@ -1,14 +1,14 @@
 -- `legend_create_banded` meets its contract. Assumes nothing.
 use mathlib.Core.Path.{ap, _∙_}
-use Rattle.legend_builders.specs.Building.{madeBanded}
+use Rattle.legend_builders.specs.Building.{bandedWithSettings}
 use Rattle.c_records.specs.Records.{madeToC}
-use Rattle.c_types.proofs.Known.{with-both}
+use Rattle.c_types.proofs.Naming.{with-both}
 use borrow.Author.Needs.{needs}
 use Rattle.c_builders.proofs.legend_create_banded.Statement.{statement}
 use Rattle.c_builders.proofs.legend_create_banded.Tie as tie
 
-settings-of-requires : tie.Need-settings-of-requires
-settings-of-requires c κs = search needs
+settings-from-c-requires : tie.Need-settings-from-c-requires
+settings-from-c-requires c κs = search needs
 
 create-banded-requires : tie.Need-create-banded-requires
 create-banded-requires c κs = search needs
@@ -20,13 +20,13 @@ made-to-c-requires : tie.Need-made-to-c-requires
 made-to-c-requires c κs = search needs
 
 returns : tie.Need-returns
-returns c = with-both madeToC (c .made-to-c .ensures) (c .before .settings-refusal .ensures) (c .before .before .create-banded .ensures ∙ ap (madeBanded _) (c .before .before .before .settings-of .ensures))
+returns c = with-both madeToC (c .made-to-c .ensures) (c .before .settings-refusal .ensures) (c .before .before .create-banded .ensures ∙ ap (bandedWithSettings _) (c .before .before .before .settings-from-c .ensures))
 
 pub legend-create-banded-spec : {M : Type 1} → statement M
 legend-create-banded-spec =
     tie.close
     (tie.spec
-    settings-of-requires
+    settings-from-c-requires
     create-banded-requires
     settings-refusal-requires
     made-to-c-requires

@@ -35,10 +35,10 @@ use Rattle.banded_columns.specs.declared.LegendBand.{LegendBand}
 use Rattle.banded.specs.Given.{withBandsGiven}
 use Rattle.banded.proofs.Rows.{Band}
 use Rattle.banded.proofs.Calls.{calls-fact}
-use Rattle.legend_builders.specs.Building.{madeBanded}
+use Rattle.legend_builders.specs.Building.{bandedWithSettings}
 use Rattle.c_types.specs.declared.settings.LegendSettings.{LegendSettings}
 use Rattle.c_records.specs.declared.record.LegendMade.{LegendMade}
-use Rattle.c_types.specs.Settings.{settingsOf}
+use Rattle.c_types.specs.Settings.{settingsFromC}
 use Rattle.c_types.specs.Refusals.{settingsRefusal}
 use Rattle.c_records.specs.Records.{madeToC}
 use Rattle.banded.proofs.Banded.new.Symbol.{name as #banded·new}
@@ -109,7 +109,7 @@ module _ {M : Type 1} (𝓤 : URA M) (H : Heap 𝓤) (A : Atoms 𝓤) (W : Given
   abbrev Own : Item 𝓤
   Own = ‵ (ShrSlice (named 0) κ Band .own x (s ∷ []))
 
-  exits : (r : LegendMade) (v : Val) → r ≡ madeToC (settingsRefusal settings) (madeBanded (withBandsGiven ys) (settingsOf settings)) → Is Made r (v ∷ []) → ent 𝓤 (⋆ 𝓤 H A (‵ (flft κ q) ∷ Own ∷ [])) (Post v)
+  exits : (r : LegendMade) (v : Val) → r ≡ madeToC (settingsRefusal settings) (bandedWithSettings (withBandsGiven ys) (settingsFromC settings)) → Is Made r (v ∷ []) → ent 𝓤 (⋆ 𝓤 H A (‵ (flft κ q) ∷ Own ∷ [])) (Post v)
   exits r v e is =
       qed W (‵ (flft κ q) ∷ Own ∷ []) ∵
       suffices ! _ (ends-at 𝓤 H A f.ended stayed (f.clauses 𝓤 H A mem run) W bound v r (tt, (tt, tt)) (tt, (tt, tt))) $ says ! e $
@@ -132,13 +132,13 @@ module _ {M : Type 1} (𝓤 : URA M) (H : Heap 𝓤) (A : Atoms 𝓤) (W : Given
         -- `bands_made`
         nothing ! $ owned ! Settings (Is Settings) (LL.makes S.the-type S′.the-plain 𝓤 H A) settings _ is-settings $ fjoin ! $ owned ! Given-bands (Is Given-bands) (LL.makes G.the-type G′.the-plain 𝓤 H A) r₃ _ is₃ $ fjoin ! $ nothing ! $ join ! $
         calls-fact ! fm bands-made.ended (bands-made.clauses 𝓤 H A mem run) (known .bands-made-known) ((tt, tt, tt, (r₃, (settings, tt)), (v₃ ∷ [], (vals settings, tt))), tt)
-        (‵ ftrue ⊛ ‵ (owns (Given-bands ∷ Settings ∷ []) (r₃, (settings, tt)) (v₃ ∷ [], (vals settings, tt)))) (λ r. r ≡ madeToC (settingsRefusal settings) (madeBanded r₃ (settingsOf settings))) (∗emp 𝓤 _) (λ r e. id⊢ 𝓤 _)
+        (‵ ftrue ⊛ ‵ (owns (Given-bands ∷ Settings ∷ []) (r₃, (settings, tt)) (v₃ ∷ [], (vals settings, tt)))) (λ r. r ≡ madeToC (settingsRefusal settings) (bandedWithSettings r₃ (settingsFromC settings))) (∗emp 𝓤 _) (λ r e. id⊢ 𝓤 _)
         (and-then ! (load ! (from ! (stop !)) (look ! 4 refl)) (and-then ! (load ! (from ! (stop !)) (look ! 6 refl)) (no-more !))) (λ v₀ r₀ e₀ is₀. drop ! $
         land ! (from ! (stop !)) (init ! 9 refl (LL.lawful N.the-type N′.the-laws 𝓤 H A W .typed r₀ _ is₀ .0)) $
         returns ! (look ! 9 refl) $ forget ! 3 refl $ forget ! 5 refl $ forget ! 7 refl $ forget ! 9 refl $
         move ! (9 ∷ 10 ∷ []) $ free1 ! $ move ! (7 ∷ 8 ∷ []) $ free1 ! $ move ! (5 ∷ 6 ∷ []) $ free1 ! $ move ! (3 ∷ 4 ∷ []) $ free1 ! $ free0 ! $
         use1 W (‵ (flft κ q) ⊛ ‵ ftrue) (id⊢ 𝓤 _) $ split ! $ keep ! (0 ∷ 2 ∷ []) $
-        by ! (exits r₀ v₀ (e₀ ∙ ap (λ g. madeToC (settingsRefusal settings) (madeBanded g (settingsOf settings))) e₃) is₀)))))))
+        by ! (exits r₀ v₀ (e₀ ∙ ap (λ g. madeToC (settingsRefusal settings) (bandedWithSettings g (settingsFromC settings))) e₃) is₀)))))))
 
 module _ {M : Type 1} (𝓤 : URA M) (H : Heap 𝓤) (A : Atoms 𝓤) (W : Given 𝓤 H A) (mem : Memory → SProp 𝓤) (run : Routine → Fun 𝓤) where
   walks : (C : Calls 𝓤 H) (Λ : Loops 𝓤 H) → FmC 𝓤 H (W .laws) C → Known 𝓤 H A mem run C → Walks 𝓤 H A f.ended stayed (WpFn 𝓤 H C Λ code.function) (f.clauses 𝓤 H A mem run)

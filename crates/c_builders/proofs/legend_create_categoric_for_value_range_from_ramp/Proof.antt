@@ -1,8 +1,8 @@
 -- `legend_create_categoric_for_value_range_from_ramp` meets its contract. Assumes nothing.
 use mathlib.Core.Path.{_∙_}
-use Rattle.legend_builders.specs.Building.{madeCategoric}
+use Rattle.legend_builders.specs.Building.{categoricWithSettings}
 use Rattle.c_records.specs.Records.{madeToC}
-use Rattle.c_types.proofs.Known.{with-both}
+use Rattle.c_types.proofs.Naming.{with-both}
 use Rattle.catgegoric.specs.Made.{forValueRangeFromRamp}
 use Rattle.categoric_lists.proofs.Numbers.{back₂}
 use borrow.Author.Needs.{needs}
@@ -11,8 +11,8 @@ use Rattle.c_builders.proofs.legend_create_categoric_for_value_range_fr
 }
 use Rattle.c_builders.proofs.legend_create_categoric_for_value_range_from_ramp.Tie as tie
 
-settings-of-requires : tie.Need-settings-of-requires
-settings-of-requires c κs = search needs
+settings-from-c-requires : tie.Need-settings-from-c-requires
+settings-from-c-requires c κs = search needs
 
 create-categoric-for-value-range-from-ramp-requires :
     tie.Need-create-categoric-for-value-range-from-ramp-requires
@@ -25,13 +25,13 @@ made-to-c-requires : tie.Need-made-to-c-requires
 made-to-c-requires c κs = search needs
 
 returns : tie.Need-returns
-returns c = let s = c .before .before .before .before in with-both madeToC (c .made-to-c .ensures) (c .before .settings-refusal .ensures) (c .before .before .create-categoric-for-value-range-from-ramp .ensures ∙ (λ j. madeCategoric (back₂ (λ a b. forValueRangeFromRamp a b (s .args .ramp .now)) (s .args .start) (s .args .end) (s .fits .start .sfits) (s .fits .end .sfits) j) (c .before .before .before .settings-of .ensures j)))
+returns c = let s = c .before .before .before .before in with-both madeToC (c .made-to-c .ensures) (c .before .settings-refusal .ensures) (c .before .before .create-categoric-for-value-range-from-ramp .ensures ∙ (λ j. categoricWithSettings (back₂ (λ a b. forValueRangeFromRamp a b (s .args .ramp .now)) (s .args .start) (s .args .end) (s .fits .start .sfits) (s .fits .end .sfits) j) (c .before .before .before .settings-from-c .ensures j)))
 
 pub legend-create-categoric-for-value-range-from-ramp-spec : {M : Type 1} → statement M
 legend-create-categoric-for-value-range-from-ramp-spec =
     tie.close
     (tie.spec
-    settings-of-requires
+    settings-from-c-requires
     create-categoric-for-value-range-from-ramp-requires
     settings-refusal-requires
     made-to-c-requires

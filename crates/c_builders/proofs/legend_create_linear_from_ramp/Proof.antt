@@ -1,14 +1,14 @@
 -- `legend_create_linear_from_ramp` meets its contract. Assumes nothing.
 use mathlib.Core.Path.{ap, _∙_}
-use Rattle.legend_builders.specs.Building.{madeLinear}
+use Rattle.legend_builders.specs.Building.{linearWithSettings}
 use Rattle.c_records.specs.Records.{madeToC}
-use Rattle.c_types.proofs.Known.{with-both}
+use Rattle.c_types.proofs.Naming.{with-both}
 use borrow.Author.Needs.{needs}
 use Rattle.c_builders.proofs.legend_create_linear_from_ramp.Statement.{statement}
 use Rattle.c_builders.proofs.legend_create_linear_from_ramp.Tie as tie
 
-settings-of-requires : tie.Need-settings-of-requires
-settings-of-requires c κs = search needs
+settings-from-c-requires : tie.Need-settings-from-c-requires
+settings-from-c-requires c κs = search needs
 
 create-linear-from-ramp-requires : tie.Need-create-linear-from-ramp-requires
 create-linear-from-ramp-requires c κs = search needs
@@ -20,13 +20,13 @@ made-to-c-requires : tie.Need-made-to-c-requires
 made-to-c-requires c κs = search needs
 
 returns : tie.Need-returns
-returns c = with-both madeToC (c .made-to-c .ensures) (c .before .settings-refusal .ensures) (c .before .before .create-linear-from-ramp .ensures ∙ ap (madeLinear _) (c .before .before .before .settings-of .ensures))
+returns c = with-both madeToC (c .made-to-c .ensures) (c .before .settings-refusal .ensures) (c .before .before .create-linear-from-ramp .ensures ∙ ap (linearWithSettings _) (c .before .before .before .settings-from-c .ensures))
 
 pub legend-create-linear-from-ramp-spec : {M : Type 1} → statement M
 legend-create-linear-from-ramp-spec =
     tie.close
     (tie.spec
-    settings-of-requires
+    settings-from-c-requires
     create-linear-from-ramp-requires
     settings-refusal-requires
     made-to-c-requires

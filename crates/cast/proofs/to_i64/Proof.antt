@@ -10,7 +10,7 @@ use lib.Ieee.{Float, nan, inf, fin, binary32, fits, isNan, ne, toBits}
 use lib.Ieee.Bits.{is-true, is-false}
 use lib.Ieee.Compare.{differs-from-itself}
 use Rattle.cast.specs.Truncated.{signed, truncated}
-use Rattle.cast.specs.Pattern.{wholePart}
+use Rattle.cast.specs.forms.Pattern.{wholePart}
 use Rattle.cast.specs.declared.Truncated.the-variants.{Whole}
 use Rattle.cast.proofs.Bits.{field-is, small, middle, edge, large, nought-less, less-fits}
 use lib.IntN.{pos, negℤ, _-ℤ_}

@@ -6,7 +6,7 @@ use Prim.Native.Nat.{ℕ}
 use lib.ListN.{getD}
 use lib.IntN.{ℤ, pos}
 use Rattle.categoric_keys.specs.Rule.{eqZ}
-use Rattle.categoric_search.specs.Halving.{colorAtEnd}
+use Rattle.categoric_search.specs.forms.Bisection.{colorAtEnd}
 use Rattle.categoric_search.proofs.Steps.{color-at-end}
 use Rattle.categoric_search.proofs.colors_for_numeric_values.Statement.{statement}
 use Rattle.categoric_search.proofs.colors_for_numeric_values.Tie as tie
@@ -17,20 +17,20 @@ narrowed-samples-requires c κs = search needs
 leading-places-requires : tie.Need-leading-places-requires
 leading-places-requires c κs = search needs
 
-halved-requires : tie.Need-halved-requires
-halved-requires c κs = search needs
+bisect-requires : tie.Need-bisect-requires
+bisect-requires c κs = search needs
 
-halved-requires-2 : tie.Need-halved-requires-2
-halved-requires-2 c κs = search needs
+bisect-requires-2 : tie.Need-bisect-requires-2
+bisect-requires-2 c κs = search needs
 
-halved-requires-3 : tie.Need-halved-requires-3
-halved-requires-3 c κs = search needs
+bisect-requires-3 : tie.Need-bisect-requires-3
+bisect-requires-3 c κs = search needs
 
-halved-requires-4 : tie.Need-halved-requires-4
-halved-requires-4 c κs = search needs
+bisect-requires-4 : tie.Need-bisect-requires-4
+bisect-requires-4 c κs = search needs
 
-halved-requires-5 : tie.Need-halved-requires-5
-halved-requires-5 c κs = search needs
+bisect-requires-5 : tie.Need-bisect-requires-5
+bisect-requires-5 c κs = search needs
 
 keys-at-requires : tie.Need-keys-at-requires
 keys-at-requires c κs = search needs
@@ -38,8 +38,8 @@ keys-at-requires c κs = search needs
 colors-at-requires : tie.Need-colors-at-requires
 colors-at-requires c κs = search needs
 
-known-requires : tie.Need-known-requires
-known-requires c κs = search needs
+mask-missing-requires : tie.Need-mask-missing-requires
+mask-missing-requires c κs = search needs
 
 returns : tie.Need-returns
 returns c k h =
@@ -51,15 +51,15 @@ returns c k h =
     let s0 = s1 .before in
     let key = s0 .before .narrowed-samples in
     let a = s0 .before .before .args in
-    c .known .ensures k h
+    c .mask-missing .ensures k h
     ∙ ap₂ (λ (z : ℤ) (w : ℕ). cond (eqZ z (getD (key .result) k (pos 0))) w (a .nodata)) (c .before .before .keys-at .ensures k h) (c .before .colors-at .ensures k h)
     ∙ color-at-end (a .narrow .now) (a .colors .now) (a .nodata) (getD (key .result) k (pos 0))
     (s0 .leading-places .ensures .0 k h)
-    (s1 .halved .ensures .0 k h)
-    (s2 .halved2 .ensures .0 k h)
-    (s3 .halved3 .ensures .0 k h)
-    (s4 .halved4 .ensures .0 k h)
-    (s5 .halved5 .ensures .0 k h)
+    (s1 .bisect .ensures .0 k h)
+    (s2 .bisect2 .ensures .0 k h)
+    (s3 .bisect3 .ensures .0 k h)
+    (s4 .bisect4 .ensures .0 k h)
+    (s5 .bisect5 .ensures .0 k h)
     ∙ ap (colorAtEnd (a .narrow .now) (a .colors .now) (a .nodata)) (key .ensures k h)
 
 pub colors-for-numeric-values-spec : {M : Type 1} → statement M
@@ -68,12 +68,12 @@ colors-for-numeric-values-spec =
     (tie.spec
     narrowed-samples-requires
     leading-places-requires
-    halved-requires
-    halved-requires-2
-    halved-requires-3
-    halved-requires-4
-    halved-requires-5
+    bisect-requires
+    bisect-requires-2
+    bisect-requires-3
+    bisect-requires-4
+    bisect-requires-5
     keys-at-requires
     colors-at-requires
-    known-requires
+    mask-missing-requires
     returns)

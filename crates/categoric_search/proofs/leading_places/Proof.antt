@@ -8,13 +8,13 @@ use lib.IntN.{pos}
 use mir.Syntax.{w32}
 use mir.ValLaws.{toZ-ofZ}
 use Rattle.lists.proofs.Filling.{Filling, filling-start, filling-turn, filling-end}
-use Rattle.categoric_search.specs.Halving.{leading}
+use Rattle.categoric_search.specs.forms.Bisection.{firstStep}
 use Rattle.categoric_search.proofs.Steps.{leading-within}
 use Rattle.categoric_search.proofs.leading_places.Statement.{statement}
 use Rattle.categoric_search.proofs.leading_places.Tie as tie
 
 abbrev Inv-loop : tie.InvT-loop
-Inv-loop narrow key result₀ i₀ result i = Filling 0 (λ k. leading narrow (getD key k (pos 0))) 16 16 i result
+Inv-loop narrow key result₀ i₀ result i = Filling 0 (λ k. firstStep narrow (getD key k (pos 0))) 16 16 i result
 
 abbrev μ-loop : tie.MeasureT-loop
 μ-loop narrow key result₀ i₀ result i = 16 - i
@@ -44,7 +44,7 @@ loop-less : tie.Need-loop-less Inv-loop μ-loop
 loop-less c = search needs
 
 loop-again : tie.Need-loop-again Inv-loop μ-loop
-loop-again c = filling-turn (c .before .before .before .loop .inv) (omega arith) (omega arith) (c .leading-place .ensures ∙ ap (leading (c .before .before .before .before .args .narrow .now)) (toZ-ofZ w32 _ (record { sfits = c .before .leading-place-arg .given })))
+loop-again c = filling-turn (c .before .before .before .loop .inv) (omega arith) (omega arith) (c .leading-place .ensures ∙ ap (firstStep (c .before .before .before .before .args .narrow .now)) (toZ-ofZ w32 _ (record { sfits = c .before .leading-place-arg .given })))
 
 returns : tie.Need-returns Inv-loop μ-loop
 returns c =

@@ -7,12 +7,12 @@ use lib.Ieee.{nan, ofBits}
 use Rattle.floats.specs.RampIndex.{nought}
 use Rattle.lists.proofs.Padding.{Storing, storing-start, storing-turn}
 use Rattle.lists.proofs.LanesOf.{lanes-stored}
-use Rattle.categoric_table.specs.InTable.{kept}
+use Rattle.categoric_table.specs.forms.InTable.{clamp}
 use Rattle.categoric_table.proofs.clamped_lanes.Statement.{statement}
 use Rattle.categoric_table.proofs.clamped_lanes.Tie as tie
 
 abbrev Inv-loop : tie.InvT-loop
-Inv-loop lanes size value result₀ i₀ result i = Storing nought (λ k. kept size (getD value k nan)) 16 lanes i result
+Inv-loop lanes size value result₀ i₀ result i = Storing nought (λ k. clamp size (getD value k nan)) 16 lanes i result
 
 abbrev μ-loop : tie.MeasureT-loop
 μ-loop lanes size value result₀ i₀ result i = lanes - i

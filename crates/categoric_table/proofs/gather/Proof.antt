@@ -6,7 +6,7 @@ use lib.Ieee.{nan}
 use lib.ListN.{getD}
 use Rattle.floats.specs.RampIndex.{floorOf}
 use Rattle.lists.proofs.LanesOf.{lane-at, lanes-agree}
-use Rattle.categoric_table.specs.InTable.{isPlace}
+use Rattle.categoric_table.specs.forms.InTable.{isIndex}
 use Rattle.categoric_table.proofs.TableTest.{kept-place}
 use Rattle.categoric_table.proofs.gather.Statement.{statement}
 use Rattle.categoric_table.proofs.gather.Tie as tie
@@ -18,7 +18,7 @@ words-at-requires : tie.Need-words-at-requires
 words-at-requires c κs =
     let s = c .before in
     let clamped = lane-at (c .clamped-lanes .ensures) nan in
-    (s .pre .0, λ k q. subst (λ x. T (isPlace x)) (sym (clamped k q)) (kept-place (s .args .size) (s .pre .1) (getD (s .args .value) k nan)))
+    (s .pre .0, λ k q. subst (λ x. T (isIndex x)) (sym (clamped k q)) (kept-place (s .args .size) (s .pre .1) (getD (s .args .value) k nan)))
 
 returns : tie.Need-returns
 returns c =

@@ -3,7 +3,7 @@ use borrow.Author.Needs.{needs}
 use mathlib.Core.Bool.{_&&_}
 use mathlib.Core.Path.{ap}
 use lib.Ieee.{ofBits, neg, lt}
-use Rattle.categoric_table.specs.InTable.{minusOne, inTable}
+use Rattle.categoric_table.specs.forms.InTable.{minusOne, inTable}
 use Rattle.categoric_table.proofs.in_table.Statement.{statement}
 use Rattle.categoric_table.proofs.in_table.Tie as tie
 

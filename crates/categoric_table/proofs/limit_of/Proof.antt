@@ -3,7 +3,7 @@ use mathlib.Core.Path.{sym, ap}
 use native.Mathlib.Omega.{arith}
 use lib.Ieee.{ofBits, neg, inFloat}
 use lib.Dec.{le→leb}
-use Rattle.categoric_table.specs.InTable.{limit}
+use Rattle.categoric_table.specs.forms.InTable.{sizeLimit}
 use Rattle.categoric_table.proofs.TableTest.{limit-above}
 use Rattle.categoric_table.proofs.limit_of.Statement.{statement}
 use Rattle.categoric_table.proofs.limit_of.Tie as tie
@@ -13,8 +13,8 @@ unfolding inFloat
 int-to-float-result c = le→leb (c .before .before .args .size) 16777216 (omega arith)
 
 returns : tie.Need-returns
-unfolding limit ofBits neg
-returns c = sym (ap limit (c .if1 .taken))
+unfolding sizeLimit ofBits neg
+returns c = sym (ap sizeLimit (c .if1 .taken))
 
 returns-2 : tie.Need-returns-2
 returns-2 c = limit-above (c .before .before .args .size) (c .before .if1 .left)

@@ -12,7 +12,7 @@ use lib.Seq.{length-take-le}
 use lib.Signed.{nonNeg, ltZ}
 use mir.Syntax.{w64}
 use mir.Val.{toZ, ofZ, Fits}
-use Rattle.categoric_build.specs.Table.{tabled, smallest, largest}
+use Rattle.categoric_build.specs.Table.{hasTable, smallest, largest}
 use Rattle.categoric_build.proofs.Tables.{not-tabled, is-tabled, empty-none, negative-none, large-none, has-table, largest-to-512, largest-from-0}
 use Rattle.categoric_lists.proofs.Numbers.{back, cast-is, cast-may}
 use Rattle.catgegoric.proofs.lookup_size.Statement.{statement}
@@ -25,7 +25,7 @@ keys-of c = take (c .before .before .before .before .before .args .count) (c .be
 most-is : (c : tie.Else3) → toZ w64 (ofZ w64 (c .before .largest .result)) ≡ largest (keys-of c)
 most-is c = back (c .before .largest .result) (c .before .largest .ok) ∙ c .before .largest .ensures
 
-is-there : (c : tie.Else3) → tabled (keys-of c) ≡ true
+is-there : (c : tie.Else3) → hasTable (keys-of c) ≡ true
 is-there c =
     let s = c .before .before .before .before .before in
     let m = c .before .before .before .smallest in

@@ -9,8 +9,8 @@ use lib.Seq.{length-take-le}
 use mir.Syntax.{w64}
 use mir.Val.{toZ, ofZ}
 use Rattle.catgegoric.specs.Made.{recordOf}
-use Rattle.categoric_build.specs.Categories.{firstOf}
-use Rattle.categoric_build.specs.Steps.{Holds}
+use Rattle.categoric_build.specs.Categories.{insertedUpTo}
+use Rattle.categoric_build.specs.forms.Insertion.{HoldsCategories}
 use Rattle.catgegoric.proofs.Making.{recorded}
 use Rattle.categoric_build.proofs.Inserting.{holds-none, holds-next, length-firstOf, keys-long, colors-long}
 use Rattle.categoric_build.proofs.Putting.{holds-put}
@@ -19,13 +19,13 @@ use Rattle.catgegoric.proofs.new.Statement.{statement}
 use Rattle.catgegoric.proofs.new.Tie as tie
 
 abbrev Inv-loop : tie.InvT-loop
-Inv-loop given words n keys₀ colors₀ count₀ i₀ keys colors count i = (i ≤ n) × (count ≤ i) × Holds (firstOf i (take n given) (take n words)) keys colors count
+Inv-loop given words n keys₀ colors₀ count₀ i₀ keys colors count i = (i ≤ n) × (count ≤ i) × HoldsCategories (insertedUpTo i (take n given) (take n words)) keys colors count
 
 abbrev μ-loop : tie.MeasureT-loop
 μ-loop given words n keys₀ colors₀ count₀ i₀ keys colors count i = n - i
 
 loop-holds : tie.Need-loop-holds Inv-loop μ-loop
-unfolding firstOf
+unfolding insertedUpTo
 loop-holds c = (omega arith, omega arith, holds-none)
 
 mul-insert : tie.Need-mul-insert Inv-loop μ-loop
@@ -68,7 +68,7 @@ returns c =
     let l = c .before .before .loop in
     let e : l .i ≡ length (take (s .args .n) (s .args .given .now)) = omega (arith, length-take-le (s .args .n) (s .args .given .now) (omega arith)) in
     c .with-lookup .ensures
-    ∙ recorded (l .inv .2) ∙ ap (λ m. recordOf (firstOf m (take (s .args .n) (s .args .given .now)) (take (s .args .n) (s .args .words .now)))) e
+    ∙ recorded (l .inv .2) ∙ ap (λ m. recordOf (insertedUpTo m (take (s .args .n) (s .args .given .now)) (take (s .args .n) (s .args .words .now)))) e
 
 pub new-spec : {M : Type 1} → statement M
 new-spec =

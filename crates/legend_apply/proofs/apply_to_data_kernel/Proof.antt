@@ -4,8 +4,8 @@ use borrow.Author.Needs.{needs}
 use Rattle.legend_apply.proofs.apply_to_data_kernel.Statement.{statement}
 use Rattle.legend_apply.proofs.apply_to_data_kernel.Tie as tie
 
-head-of-requires : tie.Need-head-of-requires
-head-of-requires c κs = search needs
+view-of-requires : tie.Need-view-of-requires
+view-of-requires c κs = search needs
 
 apply-to-data-kernel-requires : tie.Need-apply-to-data-kernel-requires
 apply-to-data-kernel-requires c κs = search needs
@@ -17,7 +17,7 @@ same-length-2 : tie.Need-same-length-2
 same-length-2 c = search needs
 
 returns : tie.Need-returns
-returns c = let a = c .before .before .before .before .before .before .before .before .before .before .before .before .before .before .before .before .before .before .before .before .before .args in in-lanes (a .legend) (a .nodata) (c .before .before .before .before .before .before .before .before .before .before .before .head-of .ensures) (c .before .before .before .before .apply-to-data-kernel .ensures)
+returns c = let a = c .before .before .before .before .before .before .before .before .before .before .before .before .before .before .before .before .before .before .before .before .before .args in in-lanes (a .legend) (a .nodata) (c .before .before .before .before .before .before .before .before .before .before .before .view-of .ensures) (c .before .before .before .before .apply-to-data-kernel .ensures)
 
 pub apply-to-data-kernel-spec : {M : Type 1} → statement M
-apply-to-data-kernel-spec = tie.close (tie.spec head-of-requires apply-to-data-kernel-requires same-length same-length-2 returns)
+apply-to-data-kernel-spec = tie.close (tie.spec view-of-requires apply-to-data-kernel-requires same-length same-length-2 returns)

@@ -4,8 +4,8 @@ use borrow.Author.Needs.{needs}
 use Rattle.legend_apply.proofs.apply_to_data_scalar.Statement.{statement}
 use Rattle.legend_apply.proofs.apply_to_data_scalar.Tie as tie
 
-head-of-requires : tie.Need-head-of-requires
-head-of-requires c κs = search needs
+view-of-requires : tie.Need-view-of-requires
+view-of-requires c κs = search needs
 
 apply-to-data-scalar-requires : tie.Need-apply-to-data-scalar-requires
 apply-to-data-scalar-requires c κs = search needs
@@ -14,7 +14,7 @@ same-length : tie.Need-same-length
 same-length c = search needs
 
 returns : tie.Need-returns
-returns c = let a = c .before .before .before .before .before .before .before .before .before .before .before .before .before .before .before .before .before .args in plainly (a .legend) (a .nodata) (c .before .before .before .before .before .before .before .before .head-of .ensures) (c .before .before .apply-to-data-scalar .ensures)
+returns c = let a = c .before .before .before .before .before .before .before .before .before .before .before .before .before .before .before .before .before .args in plainly (a .legend) (a .nodata) (c .before .before .before .before .before .before .before .before .view-of .ensures) (c .before .before .apply-to-data-scalar .ensures)
 
 pub apply-to-data-scalar-spec : {M : Type 1} → statement M
-apply-to-data-scalar-spec = tie.close (tie.spec head-of-requires apply-to-data-scalar-requires same-length returns)
+apply-to-data-scalar-spec = tie.close (tie.spec view-of-requires apply-to-data-scalar-requires same-length returns)

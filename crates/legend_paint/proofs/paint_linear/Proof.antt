@@ -1,8 +1,8 @@
 -- `linear_paint` meets its contract. Assumes nothing.
 use mathlib.Core.Path.{ap, _∙_}
-use Rattle.linear_paint.specs.Rules.{plainSample, laneChunk}
+use Rattle.linear_paint.specs.forms.Samples.{plainSample, laneChunk}
 use Rattle.legend.specs.Painters.{linearPainter}
-use Rattle.legend_view.specs.Lent.{lentLinear}
+use Rattle.legend_view.specs.Borrowed.{borrowedLinear}
 use Rattle.legend_paint.proofs.Lanes.{lanes-count, painted-plainly, painted-in-lanes}
 use Rattle.legend_paint.proofs.Same.{linear-simd, linear-sample, linear-chunk}
 use borrow.Author.Needs.{needs}
@@ -19,7 +19,7 @@ same-length : tie.Need-same-length
 same-length c = search needs
 
 returns : tie.Need-returns
-returns c = let a = c .before .before .before .before .before .before .before .before .args in let l = lentLinear (a .start) (a .end) (a .cmap .now) in c .before .before .paint .ensures ∙ painted-plainly (linearPainter l (a .config) (a .nodata)) (a .lanes) (a .src .now) (ap (plainSample (a .cmap .now)) (c .before .before .before .before .before .linear-paint .ensures) ∙ linear-sample (a .config) (a .nodata) l) (c .before .before .before .before .if1 .taken)
+returns c = let a = c .before .before .before .before .before .before .before .before .args in let l = borrowedLinear (a .start) (a .end) (a .cmap .now) in c .before .before .paint .ensures ∙ painted-plainly (linearPainter l (a .config) (a .nodata)) (a .lanes) (a .src .now) (ap (plainSample (a .cmap .now)) (c .before .before .before .before .before .linear-paint .ensures) ∙ linear-sample (a .config) (a .nodata) l) (c .before .before .before .before .if1 .taken)
 
 paint-simd-requires : tie.Need-paint-simd-requires
 paint-simd-requires c κs = (lanes-count (c .before .before .before .before .before .args .lanes) (c .before .before .before .before .before .pre .0) (c .before .if1 .left), search needs)
@@ -28,7 +28,7 @@ same-length-2 : tie.Need-same-length-2
 same-length-2 c = search needs
 
 returns-2 : tie.Need-returns-2
-returns-2 c = let a = c .before .before .before .before .before .before .before .before .args in let l = lentLinear (a .start) (a .end) (a .cmap .now) in c .before .before .paint-simd .ensures ∙ painted-in-lanes (linearPainter l (a .config) (a .nodata)) (a .lanes) (a .src .now) (ap (laneChunk (a .cmap .now)) (c .before .before .before .before .before .linear-paint .ensures) ∙ linear-chunk (a .config) (a .nodata) l) (ap (plainSample (a .cmap .now)) (c .before .before .before .before .before .linear-paint .ensures) ∙ linear-sample (a .config) (a .nodata) l) (linear-simd (a .config) (a .nodata) l) (c .before .before .before .before .if1 .left)
+returns-2 c = let a = c .before .before .before .before .before .before .before .before .args in let l = borrowedLinear (a .start) (a .end) (a .cmap .now) in c .before .before .paint-simd .ensures ∙ painted-in-lanes (linearPainter l (a .config) (a .nodata)) (a .lanes) (a .src .now) (ap (laneChunk (a .cmap .now)) (c .before .before .before .before .before .linear-paint .ensures) ∙ linear-chunk (a .config) (a .nodata) l) (ap (plainSample (a .cmap .now)) (c .before .before .before .before .before .linear-paint .ensures) ∙ linear-sample (a .config) (a .nodata) l) (linear-simd (a .config) (a .nodata) l) (c .before .before .before .before .if1 .left)
 
 pub paint-linear-spec : {M : Type 1} → statement M
 paint-linear-spec =

@@ -1,7 +1,7 @@
 -- `color_for_value_u8` meets its contract. Assumes nothing.
 use mathlib.Core.Path.{ap₂, _∙_}
 use Rattle.legend_pixel.specs.Values.{colorForValue}
-use Rattle.legend_view.specs.Lent.{lentLegend}
+use Rattle.legend_view.specs.Borrowed.{borrowedLegend}
 use borrow.Author.Needs.{needs}
 use Rattle.legend_pixel.proofs.color_for_value_u8.Statement.{statement}
 use Rattle.legend_pixel.proofs.color_for_value_u8.Tie as tie
@@ -16,7 +16,7 @@ color-for-value-requires : tie.Need-color-for-value-requires
 color-for-value-requires c κs = search needs
 
 returns : tie.Need-returns
-returns c = let a = c .before .before .before .args in let legend = lentLegend (a .head) (a .cmap .now) (a .keys .now) (a .colors .now) (a .lookup .now) in c .color-for-value .ensures ∙ ap₂ (λ n v. colorForValue legend n v) (c .before .option-u8 .ensures) (c .before .before .u8-to-f32 .ensures)
+returns c = let a = c .before .before .before .args in let legend = borrowedLegend (a .view) (a .cmap .now) (a .keys .now) (a .colors .now) (a .lookup .now) in c .color-for-value .ensures ∙ ap₂ (λ n v. colorForValue legend n v) (c .before .option-u8 .ensures) (c .before .before .u8-to-f32 .ensures)
 
 pub color-for-value-u8-spec : {M : Type 1} → statement M
 color-for-value-u8-spec =

@@ -1,7 +1,7 @@
 -- `pixel` meets its contract. Assumes nothing.
 use mathlib.Core.Path.{ap}
 use lib.ListN.{getD}
-use Rattle.legend_paint.specs.PlainOrLanes.{painted}
+use Rattle.legend_paint.specs.forms.PlainOrLanes.{painted}
 use borrow.Author.Needs.{needs}
 use Rattle.legend_pixel.proofs.pixel.Statement.{statement}
 use Rattle.legend_pixel.proofs.pixel.Tie as tie

@@ -7,9 +7,9 @@ use lib.ListN.{length, take, drop, length-drop}
 use lib.Seq.{length-take-le}
 use Rattle.cast.specs.Samples.{ofI16}
 use Rattle.legend.specs.Painters.{painter}
-use Rattle.legend_paint.specs.PlainOrLanes.{painted}
+use Rattle.legend_paint.specs.forms.PlainOrLanes.{painted}
 use Rattle.legend_samples.proofs.Blocked.{block-is}
-use Rattle.legend_view.specs.Lent.{lentLegend}
+use Rattle.legend_view.specs.Borrowed.{borrowedLegend}
 use borrow.Author.Needs.{needs}
 use Rattle.legend_samples.proofs.block_i16.Statement.{statement}
 use Rattle.legend_samples.proofs.block_i16.Tie as tie
@@ -57,7 +57,7 @@ same-length : tie.Need-same-length
 same-length c = search needs
 
 returns : tie.Need-returns
-returns c = let a = c .before .before .before .before .before .before .before .before .args in let legend = lentLegend (a .head) (a .cmap .now) (a .keys .now) (a .colors .now) (a .lookup .now) in let q = c .before .before .before .before .before .before .before .before .pre in let l : length (take (a .to - a .from) (drop (a .from) (a .src .now))) ≡ a .to - a .from = length-take-le (a .to - a .from) (drop (a .from) (a .src .now)) (omega (arith, length-drop (a .from) (a .src .now), q .2, q .4)) in block-is ofI16 (painted (painter legend (a .nodata)) (a .lanes)) (a .src .now) (a .from) (a .to) (c .before .before .before .before .before .f32-of-i16 .result) (a .out .now) (q .2) (ap (λ k. take k (c .before .before .before .before .before .f32-of-i16 .result)) (sym l) ∙ c .before .before .before .before .before .f32-of-i16 .ensures) (ap (λ ys. take (a .from) (a .out .now) ++ (ys ++ drop (a .to - a .from) (drop (a .from) (a .out .now)))) (c .before .before .paint-simd .ensures))
+returns c = let a = c .before .before .before .before .before .before .before .before .args in let legend = borrowedLegend (a .view) (a .cmap .now) (a .keys .now) (a .colors .now) (a .lookup .now) in let q = c .before .before .before .before .before .before .before .before .pre in let l : length (take (a .to - a .from) (drop (a .from) (a .src .now))) ≡ a .to - a .from = length-take-le (a .to - a .from) (drop (a .from) (a .src .now)) (omega (arith, length-drop (a .from) (a .src .now), q .2, q .4)) in block-is ofI16 (painted (painter legend (a .nodata)) (a .lanes)) (a .src .now) (a .from) (a .to) (c .before .before .before .before .before .f32-of-i16 .result) (a .out .now) (q .2) (ap (λ k. take k (c .before .before .before .before .before .f32-of-i16 .result)) (sym l) ∙ c .before .before .before .before .before .f32-of-i16 .ensures) (ap (λ ys. take (a .from) (a .out .now) ++ (ys ++ drop (a .to - a .from) (drop (a .from) (a .out .now)))) (c .before .before .paint-simd .ensures))
 
 pub block-i16-spec : {M : Type 1} → statement M
 block-i16-spec =

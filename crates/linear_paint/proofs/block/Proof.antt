@@ -6,7 +6,7 @@ use Rattle.lists.proofs.LanesOf.{lane-at}
 use Rattle.lists.proofs.Padding.{padded-part}
 use Rattle.painting.proofs.Lists.{lanes-list}
 use Rattle.painting.proofs.Whole.{chunk-is}
-use Rattle.linear_paint.specs.Rules.{plainSample}
+use Rattle.linear_paint.specs.forms.Samples.{plainSample}
 use borrow.Author.Needs.{needs}
 use Rattle.linear_paint.proofs.block.Statement.{statement}
 use Rattle.linear_paint.proofs.block.Tie as tie

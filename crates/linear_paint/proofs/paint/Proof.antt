@@ -7,7 +7,7 @@ use lib.ListN.{length, length-map}
 use Rattle.painting.proofs.Steps.{InChunks, chunks-start, chunk-turn, chunks-end}
 use Rattle.painting.proofs.Splitting.{plain-in-blocks}
 use mathlib.Core.List.{map}
-use Rattle.linear_paint.specs.Rules.{plainSample}
+use Rattle.linear_paint.specs.forms.Samples.{plainSample}
 use Rattle.linear_paint.proofs.paint.Statement.{statement}
 use Rattle.linear_paint.proofs.paint.Tie as tie
 

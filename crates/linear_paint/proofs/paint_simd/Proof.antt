@@ -7,7 +7,7 @@ use lib.ListN.{length, length-map}
 use Rattle.painting.proofs.Refusals.{lane-sizes}
 use Rattle.painting.proofs.Steps.{InChunks, chunks-start, chunk-turn, chunks-end}
 use Rattle.painting.proofs.Masking.{length-masked}
-use Rattle.linear_paint.specs.Rules.{plainSample, laneChunk}
+use Rattle.linear_paint.specs.forms.Samples.{plainSample, laneChunk}
 use Rattle.linear_paint.proofs.paint_simd.Statement.{statement}
 use Rattle.linear_paint.proofs.paint_simd.Tie as tie
 

@@ -7,7 +7,7 @@ use lib.ListN.{length, take, drop}
 use Rattle.painting.proofs.Steps.{Plainly, plain-turn, plain-end}
 use mathlib.Core.List.{map, _++_}
 use lib.Ieee.{nan}
-use Rattle.linear_paint.specs.Rules.{plainSample}
+use Rattle.linear_paint.specs.forms.Samples.{plainSample}
 use Rattle.linear_paint.proofs.rest.Statement.{statement}
 use Rattle.linear_paint.proofs.rest.Tie as tie
 

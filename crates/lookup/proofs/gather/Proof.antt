@@ -8,12 +8,12 @@ use Rattle.lists.proofs.Padding.{Storing, storing-start, storing-turn}
 use Rattle.lists.proofs.LanesOf.{lanes-stored}
 use lib.Ieee.{nan}
 use Rattle.floats.specs.RampIndex.{laneIndex}
-use Rattle.lookup.specs.Entries.{kept}
+use Rattle.lookup.specs.Entries.{unitOrZero}
 use Rattle.lookup.proofs.gather.Statement.{statement}
 use Rattle.lookup.proofs.gather.Tie as tie
 
 abbrev Inv-loop : tie.InvT-loop
-Inv-loop lanes cmap fraction result₀ i₀ result i = Storing 0 (λ k. getD cmap (laneIndex (kept (getD fraction k nan))) 0) 16 lanes i result
+Inv-loop lanes cmap fraction result₀ i₀ result i = Storing 0 (λ k. getD cmap (laneIndex (unitOrZero (getD fraction k nan))) 0) 16 lanes i result
 
 abbrev μ-loop : tie.MeasureT-loop
 μ-loop lanes cmap fraction result₀ i₀ result i = lanes - i
@@ -21,17 +21,17 @@ abbrev μ-loop : tie.MeasureT-loop
 loop-holds : tie.Need-loop-holds Inv-loop μ-loop
 loop-holds c = storing-start
 
-mul-unit : tie.Need-mul-unit Inv-loop μ-loop
-mul-unit c = search needs
+mul-unit-or-zero : tie.Need-mul-unit-or-zero Inv-loop μ-loop
+mul-unit-or-zero c = search needs
 
-array-read-unit : tie.Need-array-read-unit Inv-loop μ-loop
-array-read-unit c = search needs
+array-read-unit-or-zero : tie.Need-array-read-unit-or-zero Inv-loop μ-loop
+array-read-unit-or-zero c = search needs
 
-unit-requires : tie.Need-unit-requires Inv-loop μ-loop
-unit-requires c κs = search needs
+unit-or-zero-requires : tie.Need-unit-or-zero-requires Inv-loop μ-loop
+unit-or-zero-requires c κs = search needs
 
 lane-index-requires : tie.Need-lane-index-requires Inv-loop μ-loop
-lane-index-requires c κs = c .unit .ensures .1
+lane-index-requires c κs = c .unit-or-zero .ensures .1
 
 mul-result : tie.Need-mul-result Inv-loop μ-loop
 mul-result c = search needs
@@ -54,7 +54,7 @@ loop-less c = search needs
 loop-again : tie.Need-loop-again Inv-loop μ-loop
 loop-again c =
     let l = c .before .before .before .before in
-    let index = c .before .lane-index .ensures .0 ∙ ap laneIndex (c .before .before .unit .ensures .0) in
+    let index = c .before .lane-index .ensures .0 ∙ ap laneIndex (c .before .before .unit-or-zero .ensures .0) in
     storing-turn (l .loop .inv) (omega arith) (omega arith) (ap (λ k. getD (l .before .args .cmap .now) k 0) index)
 
 returns : tie.Need-returns Inv-loop μ-loop
@@ -67,9 +67,9 @@ gather-spec =
     Inv-loop
     μ-loop
     loop-holds
-    mul-unit
-    array-read-unit
-    unit-requires
+    mul-unit-or-zero
+    array-read-unit-or-zero
+    unit-or-zero-requires
     lane-index-requires
     mul-result
     element-copy-out-result

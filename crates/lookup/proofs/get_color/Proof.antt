@@ -15,12 +15,12 @@ use Rattle.lookup.proofs.get_color.Tie as tie
 to-bits-requires : tie.Need-to-bits-requires
 to-bits-requires c κs = search needs
 
-unit-requires : tie.Need-unit-requires
-unit-requires c κs = search needs
+unit-or-zero-requires : tie.Need-unit-or-zero-requires
+unit-or-zero-requires c κs = search needs
 
 nearest-requires : tie.Need-nearest-requires
 unfolding ofBits
-nearest-requires c κs = let h = holds (c .unit .ensures .1) in (times-low _ h, times-high _ h)
+nearest-requires c κs = let h = holds (c .unit-or-zero .ensures .1) in (times-low _ h, times-high _ h)
 
 in-unit-requires : tie.Need-in-unit-requires
 in-unit-requires c κs = search needs
@@ -28,8 +28,8 @@ in-unit-requires c κs = search needs
 index-lt : (c : tie.After-nearest) → c .nearest .result < 256
 unfolding ofBits
 index-lt c =
-    let h = holds (c .before .unit .ensures .1) in
-    omega (arith, c .nearest .ensures ∙ sym (plain-is (c .before .unit .result)), plain-le (c .before .unit .result) h)
+    let h = holds (c .before .unit-or-zero .ensures .1) in
+    omega (arith, c .nearest .ensures ∙ sym (plain-is (c .before .unit-or-zero .result)), plain-le (c .before .unit-or-zero .result) h)
 
 mul-pick : tie.Need-mul-pick
 mul-pick c = omega (arith, index-lt (c .before))
@@ -46,7 +46,7 @@ returns c =
     let nearest = c .before .before .before in
     let unit = nearest .before in
     let a = unit .before .before .args in
-    let e = nearest .nearest .ensures ∙ sym (plain-is (unit .unit .result)) ∙ ap plainIndex (unit .unit .ensures .0) in
+    let e = nearest .nearest .ensures ∙ sym (plain-is (unit .unit-or-zero .result)) ∙ ap plainIndex (unit .unit-or-zero .ensures .0) in
     c .pick .ensures
     ∙ ap (cond (c .before .before .in-unit .result) _) (unit .before .to-bits .ensures)
     ∙ ap₂ (λ b k. cond b (getD (a .cmap .now) k 0) 0) (c .before .before .in-unit .ensures) e
@@ -57,7 +57,7 @@ get-color-spec =
     tie.close
     (tie.spec
     to-bits-requires
-    unit-requires
+    unit-or-zero-requires
     nearest-requires
     in-unit-requires
     mul-pick

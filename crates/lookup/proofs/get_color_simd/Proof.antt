@@ -13,15 +13,15 @@ use Rattle.lookup.proofs.get_color_simd.Tie as tie
 gather-requires : tie.Need-gather-requires
 gather-requires c κs = search needs
 
-mappable-requires : tie.Need-mappable-requires
-mappable-requires c κs = search needs
+mask-outside-requires : tie.Need-mask-outside-requires
+mask-outside-requires c κs = search needs
 
 returns : tie.Need-returns
 returns c =
     let a = c .before .before .args in
     let gathered = lane-at (c .before .gather .ensures) 0 in
-    lanes-agree (c .mappable .ensures)
+    lanes-agree (c .mask-outside .ensures)
     (λ k h. ap (λ w. cond (inUnit (getD (a .fraction) k nan)) w 0) (gathered k h) ∙ lane-chosen (getD (a .fraction) k nan) (a .cmap .now))
 
 pub get-color-simd-spec : {M : Type 1} → statement M
-get-color-simd-spec = tie.close (tie.spec gather-requires mappable-requires returns)
+get-color-simd-spec = tie.close (tie.spec gather-requires mask-outside-requires returns)

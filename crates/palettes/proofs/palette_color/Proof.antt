@@ -1,7 +1,7 @@
 -- `palette_color` meets its contract. Assumes nothing.
 use lib.ListN.{List·getD-eq-default, length, getD}
 use Rattle.palettes.proofs.InTable.{known, in-table, offset-room}
-use Rattle.palettes.specs.Palettes.{palette, table}
+use Rattle.palettes.specs.Palettes.{palette, paletteTable}
 use native.Mathlib.Omega.{arith}
 use Prim.Native.Nat.{_+_, _<_}
 use mathlib.Core.Path.{sym, ap, _∙_}
@@ -25,7 +25,7 @@ table-color-requires : tie.Need-table-color-requires
 table-color-requires c κs = omega (arith, c .offset-of .ensures, c .before .before .palette-length .ensures, offset-room (c .before .before .before .args .number) (known _ (c .before .before .before .args .index) (omega (arith, c .before .before .palette-length .ensures))))
 
 returns-2 : tie.Need-returns-2
-returns-2 c = let l : c .before .before .before .before .args .index < length (palette (c .before .before .before .before .args .number)) = omega (arith, c .before .before .before .palette-length .ensures) in c .table-color .ensures ∙ ap (λ k. getD table (k + c .before .before .before .before .args .index) 0) (c .before .offset-of .ensures) ∙ in-table _ (known _ _ l) _ l
+returns-2 c = let l : c .before .before .before .before .args .index < length (palette (c .before .before .before .before .args .number)) = omega (arith, c .before .before .before .palette-length .ensures) in c .table-color .ensures ∙ ap (λ k. getD paletteTable (k + c .before .before .before .before .args .index) 0) (c .before .offset-of .ensures) ∙ in-table _ (known _ _ l) _ l
 
 pub palette-color-spec : {M : Type 1} → statement M
 palette-color-spec =

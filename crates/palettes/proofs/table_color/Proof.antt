@@ -1,7 +1,7 @@
 -- `table_color` meets its contract. Assumes nothing.
 use mathlib.Core.List.{flatten}
 use mathlib.Core.Path.{refl}
-use Rattle.palettes.specs.Palettes.{palettes, table}
+use Rattle.palettes.specs.Palettes.{palettes, paletteTable}
 use borrow.Author.Needs.{needs}
 use Rattle.palettes.proofs.table_color.Statement.{statement}
 use Rattle.palettes.proofs.table_color.Tie as tie
@@ -13,7 +13,7 @@ array-read-result : tie.Need-array-read-result
 array-read-result c = search needs
 
 returns : tie.Need-returns
-unfolding palettes table flatten
+unfolding palettes paletteTable flatten
 returns c = refl
 
 pub table-color-spec : {M : Type 1} → statement M

@@ -2,7 +2,7 @@
 use mathlib.Core.Path.{ap, ap₂, _∙_}
 use mathlib.Core.Bool.{cond}
 use lib.ListN.{getD}
-use Rattle.run_replay.specs.Tally.{counted, kindOf, isSame, differing}
+use Rattle.run_replay.specs.Tally.{tallied, rowKind, isSame, differing}
 use borrow.Author.Needs.{needs}
 use Rattle.run_replay.proofs.compare.Statement.{statement}
 use Rattle.run_replay.proofs.compare.Tie as tie
@@ -33,8 +33,8 @@ returns c =
     let at = same .before .before .before .difference .ensures in
     let start = same .before .before .before .before in
     let d = start .args .differ .now in (
-      c .note .ensures .0 ∙ ap (λ k. counted k (start .args .rows .now)) kind,
-      c .note .ensures .1 ∙ ap₂ (λ b k. cond b d (counted k d)) (same .is-same .ensures ∙ ap₂ isSame kind at) kind,
+      c .note .ensures .0 ∙ ap (λ k. tallied k (start .args .rows .now)) kind,
+      c .note .ensures .1 ∙ ap₂ (λ b k. cond b d (tallied k d)) (same .is-same .ensures ∙ ap₂ isSame kind at) kind,
     )
 
 pub compare-spec : {M : Type 1} → statement M

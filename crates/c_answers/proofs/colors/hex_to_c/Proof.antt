@@ -1,5 +1,5 @@
 -- `colors::hex_to_c` meets its contract. Assumes nothing.
-use Rattle.c_types.proofs.Known.{known}
+use Rattle.c_types.proofs.Naming.{known}
 use Rattle.c_answers.specs.Colors.{hexToC}
 use borrow.Author.Needs.{needs}
 use Rattle.c_answers.proofs.colors.hex_to_c.Statement.{statement}

@@ -1,8 +1,8 @@
 -- `uses::list_to_c` meets its contract. Assumes nothing.
 use mathlib.Core.Path.{_∙_, ap}
 use lib.ListN.{replicate}
-use Rattle.c_types.proofs.Known.{known}
-use Rattle.c_types.specs.Answers.{answerOf}
+use Rattle.c_types.proofs.Naming.{known}
+use Rattle.c_types.specs.Answers.{answerToC}
 use Rattle.c_answers.specs.Uses.{listToC}
 use borrow.Author.Needs.{needs}
 use Rattle.c_answers.proofs.uses.list_to_c.Statement.{statement}
@@ -22,7 +22,7 @@ to-c-requires-2 c κs = search needs
 
 returns : tie.Need-returns
 unfolding listToC
-returns c = known (λ f. listToC f (c .before .before .before .before .args .list)) (c .before .enum-told .given .1) (λ j. record { answer = (c .to-c .ensures ∙ ap answerOf (c .before .enum-told .given .1)) j; colors = replicate 256 0 })
+returns c = known (λ f. listToC f (c .before .before .before .before .args .list)) (c .before .enum-told .given .1) (λ j. record { answer = (c .to-c .ensures ∙ ap answerToC (c .before .enum-told .given .1)) j; colors = replicate 256 0 })
 
 returns-2 : tie.Need-returns-2
 unfolding listToC

@@ -2,8 +2,8 @@
 use mathlib.Core.Path.{_∙_, ap}
 use lib.Ieee.{ofBits}
 use Rattle.floats.specs.RampIndex.{nought}
-use Rattle.c_types.proofs.Known.{known}
-use Rattle.c_types.specs.Answers.{answerOf}
+use Rattle.c_types.proofs.Naming.{known}
+use Rattle.c_types.specs.Answers.{answerToC}
 use Rattle.c_answers.specs.Uses.{rangeToC}
 use borrow.Author.Needs.{needs}
 use Rattle.c_answers.proofs.uses.range_to_c.Statement.{statement}
@@ -18,16 +18,16 @@ to-c-requires c κs = search needs
 enum-told-2 : tie.Need-enum-told-2
 enum-told-2 c = search needs
 
-range-alone-requires : tie.Need-range-alone-requires
-range-alone-requires c κs = search needs
+range-or-refusal-requires : tie.Need-range-or-refusal-requires
+range-or-refusal-requires c κs = search needs
 
 returns : tie.Need-returns
 unfolding rangeToC ofBits
-returns c = known (λ f. rangeToC f (c .before .before .before .args .range)) (c .before .enum-told .given .1) (λ j. record { answer = (c .to-c .ensures ∙ ap answerOf (c .before .enum-told .given .1)) j; start = nought; end = nought })
+returns c = known (λ f. rangeToC f (c .before .before .before .args .range)) (c .before .enum-told .given .1) (λ j. record { answer = (c .to-c .ensures ∙ ap answerToC (c .before .enum-told .given .1)) j; start = nought; end = nought })
 
 returns-2 : tie.Need-returns-2
 unfolding rangeToC
-returns-2 c = known (λ f. rangeToC f (c .before .before .before .args .range)) (c .before .enum-told2 .given .1) (c .range-alone .ensures)
+returns-2 c = known (λ f. rangeToC f (c .before .before .before .args .range)) (c .before .enum-told2 .given .1) (c .range-or-refusal .ensures)
 
 pub range-to-c-spec : {M : Type 1} → statement M
-range-to-c-spec = tie.close (tie.spec enum-told to-c-requires enum-told-2 range-alone-requires returns returns-2)
+range-to-c-spec = tie.close (tie.spec enum-told to-c-requires enum-told-2 range-or-refusal-requires returns returns-2)

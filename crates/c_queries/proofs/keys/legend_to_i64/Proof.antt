@@ -1,5 +1,5 @@
 -- `keys::legend_to_i64` meets its contract. Assumes nothing.
-use Rattle.c_answers.specs.Keys.{keyOf}
+use Rattle.c_answers.specs.Keys.{keyToC}
 use mathlib.Core.Path.{ap, _∙_}
 use borrow.Author.Needs.{needs}
 use Rattle.c_queries.proofs.keys.legend_to_i64.Statement.{statement}
@@ -12,7 +12,7 @@ key-to-c-requires : tie.Need-key-to-c-requires
 key-to-c-requires c κs = search needs
 
 returns : tie.Need-returns
-returns c = c .key-to-c .ensures ∙ ap keyOf (c .before .to-i64 .ensures)
+returns c = c .key-to-c .ensures ∙ ap keyToC (c .before .to-i64 .ensures)
 
 pub legend-to-i64-spec : {M : Type 1} → statement M
 legend-to-i64-spec = tie.close (tie.spec to-i64-requires key-to-c-requires returns)

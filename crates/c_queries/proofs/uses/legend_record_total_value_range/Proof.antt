@@ -2,13 +2,13 @@
 use mathlib.Core.Path.{ap, _∙_}
 use Rattle.legend_range.specs.ValueRanges.{totalValueRange}
 use Rattle.c_answers.specs.Uses.{rangeToC}
-use Rattle.c_types.proofs.Known.{with-both}
+use Rattle.c_types.proofs.Naming.{with-both}
 use borrow.Author.Needs.{needs}
 use Rattle.c_queries.proofs.uses.legend_record_total_value_range.Statement.{statement}
 use Rattle.c_queries.proofs.uses.legend_record_total_value_range.Tie as tie
 
-legend-of-requires : tie.Need-legend-of-requires
-legend-of-requires c κs = search needs
+legend-from-c-requires : tie.Need-legend-from-c-requires
+legend-from-c-requires c κs = search needs
 
 total-value-range-requires : tie.Need-total-value-range-requires
 total-value-range-requires c κs = search needs
@@ -20,13 +20,13 @@ range-to-c-requires : tie.Need-range-to-c-requires
 range-to-c-requires c κs = search needs
 
 returns : tie.Need-returns
-returns c = with-both rangeToC (c .range-to-c .ensures) (c .before .legend-refusal .ensures) (c .before .before .total-value-range .ensures ∙ ap totalValueRange (c .before .before .before .legend-of .ensures))
+returns c = with-both rangeToC (c .range-to-c .ensures) (c .before .legend-refusal .ensures) (c .before .before .total-value-range .ensures ∙ ap totalValueRange (c .before .before .before .legend-from-c .ensures))
 
 pub legend-record-total-value-range-spec : {M : Type 1} → statement M
 legend-record-total-value-range-spec =
     tie.close
     (tie.spec
-    legend-of-requires
+    legend-from-c-requires
     total-value-range-requires
     legend-refusal-requires
     range-to-c-requires

@@ -14,8 +14,8 @@ use Rattle.categoric_lists.proofs.Numbers.{back}
 use Rattle.categoric_build.proofs.sorted.insert.Statement.{statement}
 use Rattle.categoric_build.proofs.sorted.insert.Tie as tie
 
-place-of-requires : tie.Need-place-of-requires
-place-of-requires c κs = search needs
+insertion-index-requires : tie.Need-insertion-index-requires
+insertion-index-requires c κs = search needs
 
 mul-if2 : tie.Need-mul-if2
 mul-if2 c = search needs
@@ -29,22 +29,22 @@ store-requires c κs = search needs
 returns : tie.Need-returns
 returns c =
     let d = c .before .before .before in
-    let p = d .before .before .before .place-of in
+    let p = d .before .before .before .insertion-index in
     let s = d .before .before .before .before .before in
     let a = s .args in
     let x = getD (a .keys .now) (p .result) (pos 0) in
     put-over (a .keys .now) (a .colors .now) (a .count) (back (a .key) (s .fits .key .sfits)) (p .ensures) (d .before .before .if1 .taken) (sym (ap (λ z. leZ z (toZ w64 (ofZ w64 (a .key)))) (back x (d .before .if22 .given))) ∙ d .if2 .taken) (c .store .ensures .0) (c .store .ensures .1)
 
-move-up-requires : tie.Need-move-up-requires
-move-up-requires c κs =
+shift-up-requires : tie.Need-shift-up-requires
+shift-up-requires c κs =
     let s = c .before .before .before .before .before in
-    let p = c .before .before .before .place-of in
+    let p = c .before .before .before .insertion-index in
     (omega (arith, p .ensures, place-count (toZ w64 (ofZ w64 (s .args .key))) (s .args .keys .now) (s .args .count) (s .pre .1) (omega arith)), s .pre .0, s .pre .1, s .pre .2)
 
 store-requires-2 : tie.Need-store-requires-2
 store-requires-2 c κs =
     let s = c .before .before .before .before .before .before .before .before in
-    let p = c .before .before .before .before .before .before .place-of in
+    let p = c .before .before .before .before .before .before .insertion-index in
     omega (arith, p .ensures, place-count (toZ w64 (ofZ w64 (s .args .key))) (s .args .keys .now) (s .args .count) (s .pre .1) (omega arith))
 
 add-result : tie.Need-add-result
@@ -52,9 +52,9 @@ add-result c = search needs
 
 returns-2 : tie.Need-returns-2
 returns-2 c =
-    let m = c .before .before .before .move-up in
+    let m = c .before .before .before .shift-up in
     let d = c .before .before .before .before .before .before in
-    let p = d .before .place-of in
+    let p = d .before .insertion-index in
     let s = d .before .before .before in
     let a = s .args in
     let x = getD (a .keys .now) (p .result) (pos 0) in
@@ -64,12 +64,12 @@ pub insert-spec : {M : Type 1} → statement M
 insert-spec =
     tie.close
     (tie.spec
-    place-of-requires
+    insertion-index-requires
     mul-if2
     element-copy-out-if2
     store-requires
     returns
-    move-up-requires
+    shift-up-requires
     store-requires-2
     add-result
     returns-2)

@@ -13,7 +13,7 @@ use lib.Signed.{nonNeg}
 use mir.Syntax.{w64}
 use mir.Val.{toZ, ofZ}
 use Rattle.categoric_lists.specs.Whole.{whole}
-use Rattle.categoric_build.specs.Table.{tabled, written}
+use Rattle.categoric_build.specs.Table.{hasTable, written}
 use Rattle.categoric_lists.proofs.Numbers.{below, back, cast-is, cast-may}
 use Rattle.categoric_build.proofs.Tables.{sized, unsized, index-from-0, index-in-table, word-written, no-table, a-table}
 use Rattle.categoric_build.proofs.table.create_fast_lookup.Statement.{statement}
@@ -29,7 +29,7 @@ abbrev μ-loop : tie.MeasureT-loop
 abbrev keys-of : tie.Start Inv-loop μ-loop → List ℤ
 keys-of s = take (s .args .count) (s .args .keys .now)
 
-is-there : (c : tie.Else1 Inv-loop μ-loop) → tabled (keys-of (c .before)) ≡ true
+is-there : (c : tie.Else1 Inv-loop μ-loop) → hasTable (keys-of (c .before)) ≡ true
 is-there c = sized (keys-of (c .before)) (λ e. c .if1 .left (c .before .pre .2 ∙ e))
 
 module _ (c : tie.After-at Inv-loop μ-loop) where

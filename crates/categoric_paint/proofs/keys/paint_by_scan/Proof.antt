@@ -7,7 +7,7 @@ use lib.ListN.{length}
 use Rattle.painting.proofs.Steps.{Plainly, plain-turn, plain-end}
 use mathlib.Core.List.{map}
 use lib.Ieee.{nan}
-use Rattle.categoric_paint.specs.KeyRules.{keySample}
+use Rattle.categoric_paint.specs.forms.KeySamples.{keySample}
 use Rattle.categoric_paint.proofs.keys.paint_by_scan.Statement.{statement}
 use Rattle.categoric_paint.proofs.keys.paint_by_scan.Tie as tie
 

@@ -7,7 +7,7 @@ use mathlib.Core.List.{map}
 use lib.ListN.{length, length-map}
 use Rattle.painting.proofs.Steps.{InChunks, chunks-start, chunk-turn, chunks-end}
 use Rattle.painting.proofs.Splitting.{plain-in-blocks}
-use Rattle.categoric_paint.specs.KeyRules.{searchSample}
+use Rattle.categoric_paint.specs.forms.KeySamples.{searchSample}
 use Rattle.categoric_paint.proofs.keys.paint_by_search.Statement.{statement}
 use Rattle.categoric_paint.proofs.keys.paint_by_search.Tie as tie
 

@@ -5,7 +5,7 @@ use lib.Ieee.{nan}
 use lib.ListN.{take}
 use Rattle.lists.proofs.LanesOf.{lane-at}
 use Rattle.colormapper.specs.Unmappable.{excluded}
-use Rattle.categoric_search.specs.Halving.{searchColor}
+use Rattle.categoric_search.specs.forms.Bisection.{searchColor}
 use Rattle.painting.specs.Masked.{masked}
 use Rattle.painting.proofs.Lists.{lanes-list}
 use Rattle.painting.proofs.Masking.{lanes-masked, masked-map}

@@ -7,7 +7,7 @@ use lib.ListN.{length, length-map}
 use Rattle.painting.proofs.Steps.{InChunks, chunks-start, chunk-turn, chunks-end}
 use Rattle.painting.proofs.Splitting.{plain-in-blocks}
 use mathlib.Core.List.{map}
-use Rattle.categoric_paint.specs.TableRules.{tableSample}
+use Rattle.categoric_paint.specs.forms.TableSamples.{tableSample}
 use Rattle.categoric_paint.proofs.table.paint_by_table.Statement.{statement}
 use Rattle.categoric_paint.proofs.table.paint_by_table.Tie as tie
 

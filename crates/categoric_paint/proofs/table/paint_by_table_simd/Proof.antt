@@ -7,7 +7,7 @@ use lib.ListN.{length, length-map}
 use Rattle.painting.proofs.Refusals.{lane-sizes}
 use Rattle.painting.proofs.Steps.{InChunks, chunks-start, chunk-turn, chunks-end}
 use Rattle.painting.proofs.Masking.{length-masked}
-use Rattle.categoric_paint.specs.TableRules.{tableSample, tableChunk}
+use Rattle.categoric_paint.specs.forms.TableSamples.{tableSample, tableChunk}
 use Rattle.categoric_paint.proofs.table.paint_by_table_simd.Statement.{statement}
 use Rattle.categoric_paint.proofs.table.paint_by_table_simd.Tie as tie
 

@@ -7,15 +7,15 @@ use Rattle.categoric_paint.proofs.table.words4.Tie as tie
 gather-requires : tie.Need-gather-requires
 gather-requires c κs = search needs
 
-known-requires : tie.Need-known-requires
-known-requires c κs = search needs
+mask-missing-requires : tie.Need-mask-missing-requires
+mask-missing-requires c κs = search needs
 
 returns : tie.Need-returns
 returns c =
     let s = c .before .before in
     let p = s .args .p in
-    in-two-phases 4 (s .args .lookup .now) (s .args .size) (p .nodata) (p .exclusions) (s .args .v) (c .before .gather .result) (c .known .result)
-    (s .pre) (c .before .gather .ensures) (c .known .ensures)
+    in-two-phases 4 (s .args .lookup .now) (s .args .size) (p .nodata) (p .exclusions) (s .args .v) (c .before .gather .result) (c .mask-missing .result)
+    (s .pre) (c .before .gather .ensures) (c .mask-missing .ensures)
 
 pub words4-spec : {M : Type 1} → statement M
-words4-spec = tie.close (tie.spec gather-requires known-requires returns)
+words4-spec = tie.close (tie.spec gather-requires mask-missing-requires returns)

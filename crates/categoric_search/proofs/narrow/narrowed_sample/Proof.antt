@@ -5,7 +5,7 @@ use lib.IntN.{ℤ}
 use mir.Syntax.{w32, w64}
 use mir.ValLaws.{toZ-ofZ}
 use Rattle.cast.specs.declared.Truncated.the-variants.{Whole}
-use Rattle.categoric_search.specs.Narrow.{keyOf}
+use Rattle.categoric_search.specs.forms.Narrow.{narrowKey}
 use Rattle.categoric_search.proofs.narrow.narrowed_sample.Statement.{statement}
 use Rattle.categoric_search.proofs.narrow.narrowed_sample.Tie as tie
 
@@ -26,14 +26,14 @@ returns c =
     let t = c .before .before .before .before in
     toZ-ofZ w32 _ (record { sfits = c .narrowed-key .ok })
     ∙ c .narrowed-key .ensures
-    ∙ ap (λ (y : ℤ). keyOf (Whole y)) (toZ-ofZ w64 _ (record { sfits = c .before .known-told .given .0 .1 }))
-    ∙ sym (ap keyOf (sym (t .to-i64 .ensures) ∙ c .before .before .key .given .1))
+    ∙ ap (λ (y : ℤ). narrowKey (Whole y)) (toZ-ofZ w64 _ (record { sfits = c .before .known-told .given .0 .1 }))
+    ∙ sym (ap narrowKey (sym (t .to-i64 .ensures) ∙ c .before .before .key .given .1))
 
 returns-2 : tie.Need-returns-2
-unfolding keyOf
+unfolding narrowKey
 returns-2 c =
     let t = c .before .before in
-    sym (ap keyOf (sym (t .to-i64 .ensures) ∙ c .enum-told .given .1))
+    sym (ap narrowKey (sym (t .to-i64 .ensures) ∙ c .enum-told .given .1))
 
 pub narrowed-sample-spec : {M : Type 1} → statement M
 narrowed-sample-spec =

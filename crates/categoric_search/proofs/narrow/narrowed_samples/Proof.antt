@@ -10,12 +10,12 @@ use mir.Syntax.{w32}
 use mir.ValLaws.{toZ-ofZ}
 use Rattle.lists.proofs.Filling.{Filling, filling-start, filling-turn, filling-end}
 use Rattle.cast.specs.Truncated.{truncated}
-use Rattle.categoric_search.specs.Narrow.{keyOf}
+use Rattle.categoric_search.specs.forms.Narrow.{narrowKey}
 use Rattle.categoric_search.proofs.narrow.narrowed_samples.Statement.{statement}
 use Rattle.categoric_search.proofs.narrow.narrowed_samples.Tie as tie
 
 abbrev Inv-loop : tie.InvT-loop
-Inv-loop value result₀ i₀ result i = Filling (pos 0) (λ k. keyOf (truncated (getD value k nan))) 16 16 i result
+Inv-loop value result₀ i₀ result i = Filling (pos 0) (λ k. narrowKey (truncated (getD value k nan))) 16 16 i result
 
 abbrev μ-loop : tie.MeasureT-loop
 μ-loop value result₀ i₀ result i = 16 - i

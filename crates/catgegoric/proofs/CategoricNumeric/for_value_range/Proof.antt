@@ -14,7 +14,7 @@ use Rattle.lists.proofs.Padding.{length-padded}
 use Rattle.categoric_lists.specs.Whole.{whole}
 use Rattle.categoric_lists.specs.Keys.{keysRefusal}
 use Rattle.categoric_lists.specs.Range.{rangeCount, tooWide, rangeKeys}
-use Rattle.catgegoric.specs.Made.{wideRefusal, rangeRefusal}
+use Rattle.catgegoric.specs.Made.{wideRefusal, valueRangeRefusal}
 use Rattle.categoric_lists.proofs.Numbers.{back, back₂}
 use Rattle.categoric_lists.proofs.Ranges.{key-fits, keys-are, length-range}
 use Rattle.catgegoric.proofs.Making.{range-checks, wide-narrow, wide-few, range-wide, range-match, stopped, built, refused, counted-list}
@@ -22,13 +22,13 @@ use Rattle.catgegoric.proofs.CategoricNumeric.for_value_range.Statement
 use Rattle.catgegoric.proofs.CategoricNumeric.for_value_range.Tie as tie
 
 -- what the refusal, the count and the keys are
-refusal-is : (c : tie.After-range-refusal) → c .range-refusal .result ≡ rangeRefusal (c .before .before .args .start) (c .before .before .args .end) (length (c .before .before .args .colors .now)) Done
+refusal-is : (c : tie.After-value-range-refusal) → c .value-range-refusal .result ≡ valueRangeRefusal (c .before .before .args .start) (c .before .before .args .end) (length (c .before .before .args .colors .now)) Done
 refusal-is c =
     let s = c .before .before in
-    c .range-refusal .ensures
-    ∙ back₂ (λ a b. rangeRefusal a b (length (s .args .colors .now)) Done) (s .args .start) (s .args .end) (s .fits .start .sfits) (s .fits .end .sfits)
+    c .value-range-refusal .ensures
+    ∙ back₂ (λ a b. valueRangeRefusal a b (length (s .args .colors .now)) Done) (s .args .start) (s .args .end) (s .fits .start .sfits) (s .fits .end .sfits)
 
-clear : (c : tie.After-enum-told2) → rangeRefusal (c .before .before .before .before .args .start) (c .before .before .before .before .args .end) (length (c .before .before .before .before .args .colors .now)) Done ≡ Done
+clear : (c : tie.After-enum-told2) → valueRangeRefusal (c .before .before .before .before .args .start) (c .before .before .before .before .args .end) (length (c .before .before .before .before .args .colors .now)) Done ≡ Done
 clear c = sym (refusal-is (c .before .before)) ∙ c .enum-told2 .given .1
 
 wide : (c : tie.After-enum-told2) → wideRefusal (c .before .before .before .before .args .start) (c .before .before .before .before .args .end) Done ≡ Done
@@ -52,8 +52,8 @@ keys-is c =
     (keys-are (s .args .start) (s .args .end) (toZ w64 (ofZ w64 (s .args .start))) (toZ w64 (ofZ w64 (s .args .end))) (c .before .key-count .result)
     (back (s .args .start) (s .fits .start .sfits)) (back (s .args .end) (s .fits .end .sfits)) (c .before .key-count .ensures))
 
-range-refusal-requires : tie.Need-range-refusal-requires
-range-refusal-requires c κs = search needs
+value-range-refusal-requires : tie.Need-value-range-refusal-requires
+value-range-refusal-requires c κs = search needs
 
 enum-told : tie.Need-enum-told
 enum-told c = search needs
@@ -64,7 +64,7 @@ refused-requires c κs = search needs
 returns : tie.Need-returns
 returns c =
     let s = c .before .before .before .before .before in
-    refused (rangeKeys (s .args .start) (s .args .end)) (s .args .colors .now) (stopped (rangeRefusal (s .args .start) (s .args .end) (length (s .args .colors .now))) (range-checks (s .args .start) (s .args .end) (length (s .args .colors .now))) (keysRefusal (rangeKeys (s .args .start) (s .args .end))) (refusal-is (c .before .before .before)) (c .before .enum-told .given .1)) (c .before .enum-told .given .1) (c .refused .ensures)
+    refused (rangeKeys (s .args .start) (s .args .end)) (s .args .colors .now) (stopped (valueRangeRefusal (s .args .start) (s .args .end) (length (s .args .colors .now))) (range-checks (s .args .start) (s .args .end) (length (s .args .colors .now))) (keysRefusal (rangeKeys (s .args .start) (s .args .end))) (refusal-is (c .before .before .before)) (c .before .enum-told .given .1)) (c .before .enum-told .given .1) (c .refused .ensures)
 
 enum-told-2 : tie.Need-enum-told-2
 enum-told-2 c = search needs
@@ -92,13 +92,13 @@ create-requires c κs =
 returns-2 : tie.Need-returns-2
 returns-2 c =
     let s = c .before .before .before .before .before .before .before .before .before .before in
-    built (rangeRefusal (s .args .start) (s .args .end) (length (s .args .colors .now))) (range-checks (s .args .start) (s .args .end) (length (s .args .colors .now))) (c .before .before .before .before .before .key-count .result) (rangeKeys (s .args .start) (s .args .end)) (s .args .colors .now) (c .before .before .before .before .range-keys .result) (c .before .before .before .list-colors .result) (clear (c .before .before .before .before .before .before)) (counted-list (pos 0) 256 (c .before .before .before .before .before .key-count .result) (rangeKeys (s .args .start) (s .args .end)) (count-is (c .before .before .before .before .before) ∙ sym (length-range (s .args .start) (s .args .end))) (keys-is (c .before .before .before .before))) (counted-list 0 256 (c .before .before .before .before .before .key-count .result) (s .args .colors .now) (count-is (c .before .before .before .before .before) ∙ range-match (s .args .start) (s .args .end) (length (s .args .colors .now)) (clear (c .before .before .before .before .before .before))) (c .before .before .before .list-colors .ensures)) (c .create .ensures)
+    built (valueRangeRefusal (s .args .start) (s .args .end) (length (s .args .colors .now))) (range-checks (s .args .start) (s .args .end) (length (s .args .colors .now))) (c .before .before .before .before .before .key-count .result) (rangeKeys (s .args .start) (s .args .end)) (s .args .colors .now) (c .before .before .before .before .range-keys .result) (c .before .before .before .list-colors .result) (clear (c .before .before .before .before .before .before)) (counted-list (pos 0) 256 (c .before .before .before .before .before .key-count .result) (rangeKeys (s .args .start) (s .args .end)) (count-is (c .before .before .before .before .before) ∙ sym (length-range (s .args .start) (s .args .end))) (keys-is (c .before .before .before .before))) (counted-list 0 256 (c .before .before .before .before .before .key-count .result) (s .args .colors .now) (count-is (c .before .before .before .before .before) ∙ range-match (s .args .start) (s .args .end) (length (s .args .colors .now)) (clear (c .before .before .before .before .before .before))) (c .before .before .before .list-colors .ensures)) (c .create .ensures)
 
 pub for-value-range-spec : {M : Type 1} → statement M
 for-value-range-spec =
     tie.close
     (tie.spec
-    range-refusal-requires
+    value-range-refusal-requires
     enum-told
     refused-requires
     returns

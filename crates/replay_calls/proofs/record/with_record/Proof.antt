@@ -3,7 +3,7 @@ use native.Mathlib.Omega.{arith}
 use Prim.Native.Nat.{_-_}
 use mathlib.Core.Path.{sym, ap, _∙_}
 use Rattle.replay_calls.specs.Records.{headWords, withBands, withCategories, withRecord, withArrays}
-use Rattle.replay_rows.specs.Parts.{over}
+use Rattle.replay_rows.specs.Parts.{putAt}
 use borrow.Author.Needs.{needs}
 use Rattle.replay_calls.proofs.record.with_record.Statement.{statement}
 use Rattle.replay_calls.proofs.record.with_record.Tie as tie
@@ -46,9 +46,9 @@ returns c =
     let s11 = s10 .before in
     let a = s11 .args in
     c .put2 .ensures
-    ∙ ap (over 648 (a .legend .linear .cmap)) (s8 .put .ensures
-    ∙ ap (λ h. over 132 h (a .row)) (s10 .head-words .ensures))
-    ∙ sym (ap (λ x. withArrays x (a .legend) (over 132 (headWords (a .legend)) (a .row))) (c .before .before .enum-told .given .1))
+    ∙ ap (putAt 648 (a .legend .linear .cmap)) (s8 .put .ensures
+    ∙ ap (λ h. putAt 132 h (a .row)) (s10 .head-words .ensures))
+    ∙ sym (ap (λ x. withArrays x (a .legend) (putAt 132 (headWords (a .legend)) (a .row))) (c .before .before .enum-told .given .1))
 
 returns-2 : tie.Need-returns-2
 unfolding withRecord
@@ -59,8 +59,8 @@ returns-2 c =
     let a = s10 .args in
     c .with-bands .ensures
     ∙ ap (withBands (a .legend .banded)) (s7 .put .ensures
-    ∙ ap (λ h. over 132 h (a .row)) (s9 .head-words .ensures))
-    ∙ sym (ap (λ x. withArrays x (a .legend) (over 132 (headWords (a .legend)) (a .row))) (c .before .enum-told2 .given .1))
+    ∙ ap (λ h. putAt 132 h (a .row)) (s9 .head-words .ensures))
+    ∙ sym (ap (λ x. withArrays x (a .legend) (putAt 132 (headWords (a .legend)) (a .row))) (c .before .enum-told2 .given .1))
 
 returns-3 : tie.Need-returns-3
 unfolding withRecord
@@ -71,8 +71,8 @@ returns-3 c =
     let a = s10 .args in
     c .with-categories .ensures
     ∙ ap (withCategories (a .legend .categoric)) (s7 .put .ensures
-    ∙ ap (λ h. over 132 h (a .row)) (s9 .head-words .ensures))
-    ∙ sym (ap (λ x. withArrays x (a .legend) (over 132 (headWords (a .legend)) (a .row))) (c .before .enum-told3 .given .1))
+    ∙ ap (λ h. putAt 132 h (a .row)) (s9 .head-words .ensures))
+    ∙ sym (ap (λ x. withArrays x (a .legend) (putAt 132 (headWords (a .legend)) (a .row))) (c .before .enum-told3 .given .1))
 
 pub with-record-spec : {M : Type 1} → statement M
 with-record-spec =

@@ -3,14 +3,14 @@ use borrow.Author.Needs.{needs}
 use native.Mathlib.Omega.{arith}
 use Prim.Native.Nat.{_-_}
 use Rattle.lists.proofs.Padding.{Storing, storing-start, storing-turn, storing-end}
-use Rattle.banded_lists.specs.Places.{blankBand}
-use Rattle.replay_legends.specs.Lists.{bandAt}
+use Rattle.banded_lists.specs.Padded.{blankBand}
+use Rattle.replay_legends.specs.Lists.{rowBand}
 use lib.Ieee.{ofBits}
 use Rattle.replay_legends.proofs.list.bands.Statement.{statement}
 use Rattle.replay_legends.proofs.list.bands.Tie as tie
 
 abbrev Inv-loop : tie.InvT-loop
-Inv-loop row bands₀ i₀ bands i = Storing blankBand (bandAt row) 64 16 i bands
+Inv-loop row bands₀ i₀ bands i = Storing blankBand (rowBand row) 64 16 i bands
 
 abbrev μ-loop : tie.MeasureT-loop
 μ-loop row bands₀ i₀ bands i = 16 - i

@@ -4,14 +4,14 @@ use native.Mathlib.Omega.{arith}
 use Prim.Native.Nat.{_-_}
 use Rattle.lists.proofs.Padding.{Storing, storing-start, storing-turn, storing-end}
 use Rattle.floats.specs.RampIndex.{nought}
-use Rattle.replay_legends.specs.Lists.{rangeAt}
+use Rattle.replay_legends.specs.Lists.{rowRange}
 use lib.Ieee.{ofBits}
 use Rattle.replay_legends.proofs.Asking.{ranges-are}
 use Rattle.replay_legends.proofs.list.ranges.Statement.{statement}
 use Rattle.replay_legends.proofs.list.ranges.Tie as tie
 
 abbrev Inv-loop : tie.InvT-loop
-Inv-loop row ranges₀ i₀ ranges i = Storing (record { start = nought; end = nought }) (rangeAt row) 64 16 i ranges
+Inv-loop row ranges₀ i₀ ranges i = Storing (record { start = nought; end = nought }) (rowRange row) 64 16 i ranges
 
 abbrev μ-loop : tie.MeasureT-loop
 μ-loop row ranges₀ i₀ ranges i = 16 - i

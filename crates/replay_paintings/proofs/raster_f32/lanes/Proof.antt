@@ -7,8 +7,8 @@ use borrow.Author.Needs.{needs}
 use Rattle.replay_paintings.proofs.raster_f32.lanes.Statement.{statement}
 use Rattle.replay_paintings.proofs.raster_f32.lanes.Tie as tie
 
-head-of-requires : tie.Need-head-of-requires
-head-of-requires c κs = search needs
+view-of-requires : tie.Need-view-of-requires
+view-of-requires c κs = search needs
 
 array-share-prefix-samples : tie.Need-array-share-prefix-samples
 array-share-prefix-samples c = search needs
@@ -38,13 +38,13 @@ returns c =
     let s10 = s5 .before .before .before .before .before in
     let s17 = s10 .before .before .before .before .before .before .before in
     let a = s17 .args in
-    lanes-are (a .count) (take (a .count) (a .t3)) (s17 .pre) (sym (slice-aggregate-apply-to-data-kernel (s5))) (laned (a .legend) (a .nodata) (s10 .head-of .ensures) (c .before .before .apply-to-data-kernel .ensures))
+    lanes-are (a .count) (take (a .count) (a .t3)) (s17 .pre) (sym (slice-aggregate-apply-to-data-kernel (s5))) (laned (a .legend) (a .nodata) (s10 .view-of .ensures) (c .before .before .apply-to-data-kernel .ensures))
 
 pub lanes-spec : {M : Type 1} → statement M
 lanes-spec =
     tie.close
     (tie.spec
-    head-of-requires
+    view-of-requires
     array-share-prefix-samples
     slice-aggregate-apply-to-data-kernel
     array-borrow-prefix-words

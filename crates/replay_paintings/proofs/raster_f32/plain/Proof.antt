@@ -7,8 +7,8 @@ use borrow.Author.Needs.{needs}
 use Rattle.replay_paintings.proofs.raster_f32.plain.Statement.{statement}
 use Rattle.replay_paintings.proofs.raster_f32.plain.Tie as tie
 
-head-of-requires : tie.Need-head-of-requires
-head-of-requires c κs = search needs
+view-of-requires : tie.Need-view-of-requires
+view-of-requires c κs = search needs
 
 array-share-prefix-samples : tie.Need-array-share-prefix-samples
 array-share-prefix-samples c = search needs
@@ -34,13 +34,13 @@ returns c =
     let s8 = c .before .before .before .before .before .before .before .before in
     let s15 = s8 .before .before .before .before .before .before .before in
     let a = s15 .args in
-    plain-is (a .count) (take (a .count) (a .t2)) (search needs) (sym (taken (a .count) (a .t2) (search needs) (search needs))) (plainly (a .legend) (a .nodata) (s8 .head-of .ensures) (c .before .apply-to-data-scalar .ensures))
+    plain-is (a .count) (take (a .count) (a .t2)) (search needs) (sym (taken (a .count) (a .t2) (search needs) (search needs))) (plainly (a .legend) (a .nodata) (s8 .view-of .ensures) (c .before .apply-to-data-scalar .ensures))
 
 pub plain-spec : {M : Type 1} → statement M
 plain-spec =
     tie.close
     (tie.spec
-    head-of-requires
+    view-of-requires
     array-share-prefix-samples
     slice-aggregate-apply-to-data-scalar
     array-borrow-prefix-words

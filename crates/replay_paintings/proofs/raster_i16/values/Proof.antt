@@ -10,7 +10,7 @@ use mir.ValLaws.{toZ-ofZ}
 use Rattle.lists.proofs.Padding.{Storing, storing-start, storing-turn, storing-end}
 use Rattle.cast.specs.Samples.{ofI16}
 use Rattle.cast.specs.Nodata.{nodataI16}
-use Rattle.legend_view.specs.Lent.{lentLegend}
+use Rattle.legend_view.specs.Borrowed.{borrowedLegend}
 use Rattle.legend_pixel.specs.Values.{colorForValue}
 use Rattle.replay_paintings.specs.Paintings.{colorOrNumber}
 use Rattle.replay_paintings.proofs.Painting.{values-are}
@@ -18,13 +18,13 @@ use Rattle.replay_paintings.proofs.raster_i16.values.Statement.{stateme
 use Rattle.replay_paintings.proofs.raster_i16.values.Tie as tie
 
 abbrev Inv-loop : tie.InvT-loop
-Inv-loop count nodata samples cmap keys colors lookup head words₀ i₀ words i = Storing 0 (λ k. colorOrNumber (colorForValue (lentLegend head cmap keys colors lookup) (nodataI16 (nodata)) (ofI16 (getD samples k (pos 0))))) 40 count i words
+Inv-loop count nodata samples cmap keys colors lookup view words₀ i₀ words i = Storing 0 (λ k. colorOrNumber (colorForValue (borrowedLegend view cmap keys colors lookup) (nodataI16 (nodata)) (ofI16 (getD samples k (pos 0))))) 40 count i words
 
 abbrev μ-loop : tie.MeasureT-loop
-μ-loop count nodata samples cmap keys colors lookup head words₀ i₀ words i = count - i
+μ-loop count nodata samples cmap keys colors lookup view words₀ i₀ words i = count - i
 
-head-of-requires : tie.Need-head-of-requires Inv-loop μ-loop
-head-of-requires c κs = search needs
+view-of-requires : tie.Need-view-of-requires Inv-loop μ-loop
+view-of-requires c κs = search needs
 
 loop-holds : tie.Need-loop-holds Inv-loop μ-loop
 loop-holds c = storing-start
@@ -54,10 +54,10 @@ loop-less : tie.Need-loop-less Inv-loop μ-loop
 loop-less c = search needs
 
 loop-again : tie.Need-loop-again Inv-loop μ-loop
-loop-again c = let a = c .before .before .before .before .before .before .before .before .before .before .before .before .before .before .before .before .args in storing-turn (c .before .before .before .before .before .before .before .before .loop .inv) (omega arith) (omega arith) (c .color-or-number .ensures ∙ ap colorOrNumber (c .before .color-for-value-i16 .ensures ∙ ap (λ (x : ℤ). colorForValue (lentLegend (c .before .before .before .before .before .before .before .before .before .head-of .result) (a .legend .linear .cmap) (a .legend .categoric .keys) (a .legend .categoric .colors) (a .legend .categoric .lookup)) (nodataI16 (a .nodata)) (ofI16 x)) (toZ-ofZ w16 (getD (a .t2) (c .before .before .before .before .before .before .before .before .loop .i) (pos 0)) (record { sfits = c .before .before .color-for-value-i16-arg .given }))))
+loop-again c = let a = c .before .before .before .before .before .before .before .before .before .before .before .before .before .before .before .before .args in storing-turn (c .before .before .before .before .before .before .before .before .loop .inv) (omega arith) (omega arith) (c .color-or-number .ensures ∙ ap colorOrNumber (c .before .color-for-value-i16 .ensures ∙ ap (λ (x : ℤ). colorForValue (borrowedLegend (c .before .before .before .before .before .before .before .before .before .view-of .result) (a .legend .linear .cmap) (a .legend .categoric .keys) (a .legend .categoric .colors) (a .legend .categoric .lookup)) (nodataI16 (a .nodata)) (ofI16 x)) (toZ-ofZ w16 (getD (a .t2) (c .before .before .before .before .before .before .before .before .loop .i) (pos 0)) (record { sfits = c .before .before .color-for-value-i16-arg .given }))))
 
 returns : tie.Need-returns Inv-loop μ-loop
-returns c = let s = c .before .before .before .before .before .before .before .before .before in let a = s .args in values-are (a .legend) (nodataI16 (a .nodata)) (c .before .before .head-of .ensures) (ofI16) (pos 0) (a .count) (a .t2) (search needs) (storing-end (c .before .loop .inv) (omega arith))
+returns c = let s = c .before .before .before .before .before .before .before .before .before in let a = s .args in values-are (a .legend) (nodataI16 (a .nodata)) (c .before .before .view-of .ensures) (ofI16) (pos 0) (a .count) (a .t2) (search needs) (storing-end (c .before .loop .inv) (omega arith))
 
 pub values-spec : {M : Type 1} → statement M
 values-spec =
@@ -65,7 +65,7 @@ values-spec =
     (tie.spec
     Inv-loop
     μ-loop
-    head-of-requires
+    view-of-requires
     loop-holds
     mul-color-for-value-i16
     array-copy-out-color-for-value-i16

@@ -10,8 +10,8 @@ use borrow.Author.Needs.{needs}
 use Rattle.replay_paintings.proofs.raster_u8.lanes.Statement.{statement}
 use Rattle.replay_paintings.proofs.raster_u8.lanes.Tie as tie
 
-head-of-requires : tie.Need-head-of-requires
-head-of-requires c κs = search needs
+view-of-requires : tie.Need-view-of-requires
+view-of-requires c κs = search needs
 
 array-share-prefix-samples : tie.Need-array-share-prefix-samples
 array-share-prefix-samples c = search needs
@@ -42,13 +42,13 @@ returns c =
     let s17 = s10 .before .before .before .before .before .before .before in
     let a = s17 .args in
     lanes-are (a .count) (map ofU8 (take (a .count) (a .t3))) (s17 .pre) (length-map (take (a .count) (a .t3)) ofU8
-    ∙ sym (slice-aggregate-apply-to-data-kernel-u8 (s5))) (laned (a .legend) (nodataU8 (a .nodata)) (s10 .head-of .ensures) (c .before .before .apply-to-data-kernel-u8 .ensures))
+    ∙ sym (slice-aggregate-apply-to-data-kernel-u8 (s5))) (laned (a .legend) (nodataU8 (a .nodata)) (s10 .view-of .ensures) (c .before .before .apply-to-data-kernel-u8 .ensures))
 
 pub lanes-spec : {M : Type 1} → statement M
 lanes-spec =
     tie.close
     (tie.spec
-    head-of-requires
+    view-of-requires
     array-share-prefix-samples
     slice-aggregate-apply-to-data-kernel-u8
     array-borrow-prefix-words

@@ -6,13 +6,13 @@ use mathlib.Core.Path.{_≡_, refl, ap, _∙_}
 use lib.ListN.{length, getD, take, set}
 use mathlib.Core.List.{List}
 use lib.Seq.{take-all}
-use Rattle.replay_rows.specs.Parts.{over}
+use Rattle.replay_rows.specs.Parts.{putAt}
 use Rattle.replay_rows.proofs.Rows.{over-none, over-more}
 use Rattle.replay_rows.proofs.part.put.Statement.{statement}
 use Rattle.replay_rows.proofs.part.put.Tie as tie
 
 abbrev Inv-loop : tie.InvT-loop
-Inv-loop from words n result₀ i₀ result i = (i ≤ n) × (n ≡ length words) × (length result ≡ 1680) × (length result₀ ≡ 1680) × (result ≡ over from (take i words) result₀)
+Inv-loop from words n result₀ i₀ result i = (i ≤ n) × (n ≡ length words) × (length result ≡ 1680) × (length result₀ ≡ 1680) × (result ≡ putAt from (take i words) result₀)
 
 abbrev μ-loop : tie.MeasureT-loop
 μ-loop from words n result₀ i₀ result i = n - i
@@ -52,7 +52,7 @@ returns c =
     let l = c .before in
     let a = l .before .args in
     l .loop .inv .4
-    ∙ ap (λ (r : List ℕ). over (a .from) r (a .row)) (take-all (l .loop .i) (a .words .now) (omega arith))
+    ∙ ap (λ (r : List ℕ). putAt (a .from) r (a .row)) (take-all (l .loop .i) (a .words .now) (omega arith))
 
 pub put-spec : {M : Type 1} → statement M
 put-spec =

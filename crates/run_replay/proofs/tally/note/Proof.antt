@@ -4,7 +4,7 @@ use mathlib.Core.Path.{sym, ap, _∙_}
 use lib.ListN.{set}
 use mathlib.Core.Bool.{Bool, cond}
 use borrow.Author.Tests.{not-true, not-false}
-use Rattle.run_replay.specs.Tally.{counted}
+use Rattle.run_replay.specs.Tally.{tallied}
 use borrow.Author.Needs.{needs}
 use Rattle.run_replay.proofs.tally.note.Statement.{statement}
 use Rattle.run_replay.proofs.tally.note.Tie as tie
@@ -40,22 +40,22 @@ element-write-differ : tie.Need-element-write-differ
 element-write-differ c = search needs
 
 returns : tie.Need-returns
-unfolding counted
+unfolding tallied
 returns c =
     let s3 = c .before .before .before in
     let s5 = s3 .before .before in
     let a = s5 .args in (
       ap (set (a .rows .now) (a .kind)) (s3 .wrapping-add-u64 .ensures),
       ap (set (a .differ .now) (a .kind)) (c .wrapping-add-u642 .ensures)
-          ∙ sym (ap (λ (t : Bool). cond t (a .differ .now) (counted (a .kind) (a .differ .now))) (not-true (a .same) (c .before .before .if1 .taken))),
+          ∙ sym (ap (λ (t : Bool). cond t (a .differ .now) (tallied (a .kind) (a .differ .now))) (not-true (a .same) (c .before .before .if1 .taken))),
     )
 
 returns-2 : tie.Need-returns-2
-unfolding counted
+unfolding tallied
 returns-2 c =
     let s3 = c .before .before .before in
     let a = s3 .args in
-    (ap (set (a .rows .now) (a .kind)) (c .before .wrapping-add-u64 .ensures), sym (ap (λ (t : Bool). cond t (a .differ .now) (counted (a .kind) (a .differ .now))) (not-false (a .same) (c .if1 .left))))
+    (ap (set (a .rows .now) (a .kind)) (c .before .wrapping-add-u64 .ensures), sym (ap (λ (t : Bool). cond t (a .differ .now) (tallied (a .kind) (a .differ .now))) (not-false (a .same) (c .if1 .left))))
 
 pub note-spec : {M : Type 1} → statement M
 note-spec =

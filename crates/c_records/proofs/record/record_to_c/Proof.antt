@@ -1,0 +1,18 @@
+-- `record::flat` meets its contract. Assumes nothing.
+use Rattle.c_records.specs.Records.{recordToC}
+use borrow.Author.Needs.{needs}
+use Rattle.c_records.proofs.record.record_to_c.Statement.{statement}
+use Rattle.c_records.proofs.record.record_to_c.Tie as tie
+
+kind-to-c-requires : tie.Need-kind-to-c-requires
+kind-to-c-requires c κs = search needs
+
+settings-to-c-requires : tie.Need-settings-to-c-requires
+settings-to-c-requires c κs = search needs
+
+returns : tie.Need-returns
+unfolding recordToC
+returns c = let l = c .before .before .before .before .before .before .args .made in λ j. record { kind = c .before .kind-to-c .ensures j; settings = c .settings-to-c .ensures j; linear = l .linear; banded = l .banded; categoric = l .categoric }
+
+pub record-to-c-spec : {M : Type 1} → statement M
+record-to-c-spec = tie.close (tie.spec kind-to-c-requires settings-to-c-requires returns)

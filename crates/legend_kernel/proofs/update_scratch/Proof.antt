@@ -1,0 +1,22 @@
+-- `update_scratch` meets its contract. Assumes nothing.
+use mathlib.Core.Path.{sym, ap, _∙_}
+use mathlib.Core.Bool.{cond}
+use Rattle.painting.specs.Painted.{scratchAfter}
+use borrow.Author.Needs.{needs}
+use Rattle.legend_kernel.proofs.update_scratch.Statement.{statement}
+use Rattle.legend_kernel.proofs.update_scratch.Tie as tie
+
+keep-last-requires : tie.Need-keep-last-requires
+keep-last-requires c κs = search needs
+
+same-length : tie.Need-same-length
+same-length c = search needs
+
+returns : tie.Need-returns
+returns c = let a = c .before .before .before .before .before .before .before .args in c .before .before .keep-last .ensures ∙ sym (ap (λ b. cond b (scratchAfter (a .lanes) (a .out .now) (a .scratch .now)) (a .scratch .now)) (c .before .before .before .before .if1 .taken))
+
+returns-2 : tie.Need-returns-2
+returns-2 c = let a = c .before .before .before .args in sym (ap (λ b. cond b (scratchAfter (a .lanes) (a .out .now) (a .scratch .now)) (a .scratch .now)) (c .if1 .left))
+
+pub update-scratch-spec : {M : Type 1} → statement M
+update-scratch-spec = tie.close (tie.spec keep-last-requires same-length returns returns-2)
