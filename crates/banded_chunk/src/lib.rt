@@ -1,5 +1,5 @@
 // The colours of sixteen samples, or of a chunk of as many as there are lanes, by a banded legend (docs/RULES.md, "Painting"). At most
-// 64 bands are counted. Bands that are apart are searched by place, others scanned, as the caller asks.
+// 64 bands are counted. Ascending disjoint bands are searched by index, others scanned, as the caller asks.
 use banded_lanes::Scan;
 use banded_search::indices;
 use colormapper::Exclusions;
@@ -11,8 +11,8 @@ ghost use lib.Ieee.{nan};
 ghost use lib.ListN.{length, getD, take};
 ghost use Rattle.lists.specs.Lanes.{LanesOf};
 ghost use Rattle.lists.specs.Padded.{padded};
+ghost use Rattle.banded_columns.specs.Order.{ascendingDisjoint};
 ghost use Rattle.banded_rule.specs.forms.Columns.{fromColumns};
-ghost use Rattle.banded_search.specs.forms.Ascending.{apart};
 ghost use Rattle.painting.specs.Painted.{chunkOver};
 ghost use Rattle.painting.specs.Contracts.{laneCount};
 ghost use Rattle.banded_chunk.specs.forms.Samples.{plainSample, laneChunk};
@@ -48,7 +48,7 @@ fn words_searched(
     p: BandedPaint,
     v: [f32; 16],
 ) -> [u32; 16]
-    requires { ⌜ (p .count ≤ 64) × (apart (now starts) (now ends) (p .count) ≡ true) ⌝ }
+    requires { ⌜ (p .count ≤ 64) × (ascendingDisjoint (fromColumns (now starts) (now ends) (now colors) (p .count)) ≡ true) ⌝ }
     ensures { λ d. ⌜ LanesOf 0 16 (λ k. plainSample (fromColumns (now (starts .entry)) (now (ends .entry)) (now (colors .entry)) (p .count)) p (getD v k nan)) d ⌝ }
 {
     let c = banded_search::colors_for_numeric_values(
@@ -62,7 +62,7 @@ fn words_searched(
     p.exclusions.masked_simd(16, v, p.unmappable.nodata, c)
 }
 
-// By a search where it is asked for: only of bands that are apart.
+// By a search where it is asked for: only of ascending disjoint bands.
 pub fn words(
     starts: &[f32; 64],
     ends: &[f32; 64],
@@ -71,7 +71,7 @@ pub fn words(
     search: bool,
     v: [f32; 16],
 ) -> [u32; 16]
-    requires { ⌜ (p .count ≤ 64) × (search ≡ true → apart (now starts) (now ends) (p .count) ≡ true) ⌝ }
+    requires { ⌜ (p .count ≤ 64) × (search ≡ true → ascendingDisjoint (fromColumns (now starts) (now ends) (now colors) (p .count)) ≡ true) ⌝ }
     ensures { λ d. ⌜ LanesOf 0 16 (λ k. plainSample (fromColumns (now (starts .entry)) (now (ends .entry)) (now (colors .entry)) (p .count)) p (getD v k nan)) d ⌝ }
 {
     if search {
@@ -145,7 +145,7 @@ fn words4_searched(
     p: BandedPaint,
     v: [f32; 16],
 ) -> [u32; 16]
-    requires { ⌜ (p .count ≤ 64) × Searchable (now starts) (now ends) (p .count) ⌝ }
+    requires { ⌜ (p .count ≤ 64) × Searchable (now starts) (now ends) (now colors) (p .count) ⌝ }
     ensures { λ d. ⌜ d ≡ padded 0 16 (laneChunk (fromColumns (now (starts .entry)) (now (ends .entry)) (now (colors .entry)) (p .count)) p (take 4 v)) ⌝ }
 {
     let places = indices::band_indices(4, starts, p.count, v);
@@ -167,7 +167,7 @@ fn words8_searched(
     p: BandedPaint,
     v: [f32; 16],
 ) -> [u32; 16]
-    requires { ⌜ (p .count ≤ 64) × Searchable (now starts) (now ends) (p .count) ⌝ }
+    requires { ⌜ (p .count ≤ 64) × Searchable (now starts) (now ends) (now colors) (p .count) ⌝ }
     ensures { λ d. ⌜ d ≡ padded 0 16 (laneChunk (fromColumns (now (starts .entry)) (now (ends .entry)) (now (colors .entry)) (p .count)) p (take 8 v)) ⌝ }
 {
     let places = indices::band_indices(8, starts, p.count, v);
@@ -189,7 +189,7 @@ fn words16_searched(
     p: BandedPaint,
     v: [f32; 16],
 ) -> [u32; 16]
-    requires { ⌜ (p .count ≤ 64) × Searchable (now starts) (now ends) (p .count) ⌝ }
+    requires { ⌜ (p .count ≤ 64) × Searchable (now starts) (now ends) (now colors) (p .count) ⌝ }
     ensures { λ d. ⌜ d ≡ padded 0 16 (laneChunk (fromColumns (now (starts .entry)) (now (ends .entry)) (now (colors .entry)) (p .count)) p (take 16 v)) ⌝ }
 {
     let places = indices::band_indices(16, starts, p.count, v);
@@ -252,7 +252,7 @@ pub fn chunk_searched(
     base: usize,
     out: &mut [u32],
 )
-    requires { ⌜ (p .count ≤ 64) × Searchable (now starts) (now ends) (p .count) × (laneCount l ≡ true) × (base + l ≤ length (now src)) × (base + l ≤ length (now out)) ⌝ }
+    requires { ⌜ (p .count ≤ 64) × Searchable (now starts) (now ends) (now colors) (p .count) × (laneCount l ≡ true) × (base + l ≤ length (now src)) × (base + l ≤ length (now out)) ⌝ }
     ensures { λ _. ⌜ now (out .exit) ≡ chunkOver (laneChunk (fromColumns (now (starts .entry)) (now (ends .entry)) (now (colors .entry)) (p .count)) p) (now (src .entry)) (now (out .entry)) base l ⌝ }
 {
     if l == 4 {

@@ -1,3 +1,4 @@
 pub mod Past
 pub mod Unpacking
 pub mod Outer
+pub mod Ordering

@@ -1,2 +1,3 @@
 pub mod OuterColors
 pub mod Band
+pub mod Order

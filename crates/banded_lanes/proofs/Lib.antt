@@ -3,7 +3,6 @@ pub mod Updating
 pub mod LaneForms
 pub mod Chunk
 pub mod LaneEdges
-pub mod Ordering
 pub mod FarEdges
 pub mod SampleLaw
 pub mod LaneLaw

@@ -15,9 +15,10 @@ use Rattle.banded_columns.specs.Band.{holds, lastOf}
 use Rattle.banded_rule.specs.PlainRule.{plainColor}
 use Rattle.banded_lanes.specs.Edges.{edged}
 use Rattle.banded_rule.specs.forms.Steps.{firstColor, edgeColor}
-use Rattle.banded_lanes.specs.Conditions.{startsBelowEnd, clears, wideBand, eachBand, eachAfter, eachNext, firstAndLast, LawfulBands}
+use Rattle.banded_columns.specs.Order.{startsBelowEnd, clears, eachBand, eachAfter, eachNext}
+use Rattle.banded_lanes.specs.Conditions.{wideBand, firstAndLast, LawfulBands}
 use Rattle.banded_rule.proofs.Forms.{edge-chain, plain-form}
-use Rattle.banded_lanes.proofs.Ordering.{end-start}
+use Rattle.banded_columns.proofs.Ordering.{starts-below, disjoint, end-start}
 use Rattle.banded_lanes.proofs.FarEdges.{past-end, up-to-start}
 
 -- the lanes' colour after some bands, each over those before it
@@ -269,10 +270,10 @@ chain-of lo b (d ∷ bs) l q r =
 module _ (b : LegendBand) (bs : List LegendBand) (s : LawfulBands (b ∷ bs)) (u : UnmappableColors) (v : Float) where
   sound-chain : Chain (b .start) (b ∷ bs)
   unfolding eachNext
-  sound-chain = chain-of (b .start) b bs (le-refl-float (b .start) (lt-l (b .start) (b .end) first)) (s .disjoint .starts) (s .disjoint .apart)
+  sound-chain = chain-of (b .start) b bs (le-refl-float (b .start) (lt-l (b .start) (b .end) first)) (starts-below (b ∷ bs) (s .ordered)) (disjoint (b ∷ bs) (s .ordered))
     where
       first : T (startsBelowEnd b)
-      first = unfold eachBand in and-l (startsBelowEnd b) (eachBand startsBelowEnd bs) (s .disjoint .starts)
+      first = unfold eachBand in and-l (startsBelowEnd b) (eachBand startsBelowEnd bs) (starts-below (b ∷ bs) (s .ordered))
 
   pub edges-law : T (not (isNan v)) → (i : Bool) → edged u b (lastOf b bs) (record { value = v; inside = i; color = laneIn (b ∷ bs) v (u .nodata) }) ≡ plainColor (b ∷ bs) u v
   unfolding firstAndLast

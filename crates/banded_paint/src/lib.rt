@@ -1,5 +1,5 @@
 // Painting f32 samples by a banded legend, plainly and in lanes (docs/RULES.md, "Painting"). The refusals are the caller's, who has
-// seen to it that at most 64 bands are counted. Bands that are apart are searched by place, others scanned: asked once a raster.
+// seen to it that at most 64 bands are counted. Ascending disjoint bands are searched by index, others scanned: asked once per raster.
 use banded_chunk::BandedPaint;
 use banded_search::indices;
 ghost use mathlib.Core.Path.{_≡_};
@@ -7,8 +7,8 @@ ghost use mathlib.Core.Bool.{true};
 ghost use mathlib.Core.List.{map, _++_};
 ghost use Prim.Native.Nat.{_+_, _≤_};
 ghost use lib.ListN.{length, take, drop};
+ghost use Rattle.banded_columns.specs.Order.{ascendingDisjoint};
 ghost use Rattle.banded_rule.specs.forms.Columns.{fromColumns};
-ghost use Rattle.banded_search.specs.forms.Ascending.{apart};
 ghost use Rattle.painting.specs.Painted.{plainPainted, lanePainted, chunkOver};
 ghost use Rattle.painting.specs.Contracts.{laneCount};
 ghost use Rattle.banded_chunk.specs.forms.Samples.{plainSample, laneChunk};
@@ -25,7 +25,7 @@ fn block(
     base: usize,
     out: &mut [u32],
 )
-    requires { ⌜ (p .count ≤ 64) × (search ≡ true → apart (now starts) (now ends) (p .count) ≡ true) × (base + 16 ≤ length (now src)) × (base + 16 ≤ length (now out)) ⌝ }
+    requires { ⌜ (p .count ≤ 64) × (search ≡ true → ascendingDisjoint (fromColumns (now starts) (now ends) (now colors) (p .count)) ≡ true) × (base + 16 ≤ length (now src)) × (base + 16 ≤ length (now out)) ⌝ }
     ensures { λ _. ⌜ now (out .exit) ≡ chunkOver (map (plainSample (fromColumns (now (starts .entry)) (now (ends .entry)) (now (colors .entry)) (p .count)) p)) (now (src .entry)) (now (out .entry)) base 16 ⌝ }
 {
     let v = painting::load(16, src, base);
@@ -48,7 +48,7 @@ fn rest(
     base: usize,
     out: &mut [u32],
 )
-    requires { ⌜ (p .count ≤ 64) × (search ≡ true → apart (now starts) (now ends) (p .count) ≡ true) × (base ≤ length (now src)) × (length (now src) ≤ base + 16) × (length (now out) ≡ length (now src)) ⌝ }
+    requires { ⌜ (p .count ≤ 64) × (search ≡ true → ascendingDisjoint (fromColumns (now starts) (now ends) (now colors) (p .count)) ≡ true) × (base ≤ length (now src)) × (length (now src) ≤ base + 16) × (length (now out) ≡ length (now src)) ⌝ }
     ensures { λ _. ⌜ now (out .exit) ≡ take base (now (out .entry)) ++ map (plainSample (fromColumns (now (starts .entry)) (now (ends .entry)) (now (colors .entry)) (p .count)) p) (drop base (now (src .entry))) ⌝ }
 {
     let m = src.len() - base;

@@ -1,22 +1,20 @@
--- Bands are apart where each clears the one before it; then each clears all before it. Assumes nothing.
-use mathlib.Core.Path.{_≡_, refl, sym, subst}
-use mathlib.Core.Bool.{Bool, true, false, _&&_}
+-- Ascending disjoint bands that stand in columns: each clears all before it. Assumes nothing.
+use mathlib.Core.Path.{_≡_, sym, subst}
+use mathlib.Core.Bool.{Bool, true}
 use mathlib.Core.List.{List}
 use mathlib.Core.Logic.{⊎-elim}
-use Prim.Native.Nat.{ℕ, zero, suc, _+_, _-_, _≤_, _<_}
+use Prim.Native.Nat.{ℕ, zero, suc, _<_}
 use native.Mathlib.Nat.{eq-or-lt-of-le}
-use native.Mathlib.Numerals.{add-one}
 use native.Mathlib.Omega.{arith}
 use lib.Dec.{T}
 use lib.Ieee.{Float, nan, le}
-use lib.Ieee.Fits.{and-l, and-r}
 use lib.ListN.{getD}
-use Rattle.floats.proofs.Order.{le-le}
-use Rattle.banded_search.specs.forms.Ascending.{apart}
-
-pub and-and : (a b c : Bool) → ((a && b) && c) ≡ (a && (b && c))
-and-and true b c = refl
-and-and false b c = refl
+use Rattle.floats.proofs.Order.{le-le, lt-le, lt→le}
+use Rattle.lists.specs.Tabulate.{tabulate}
+use Rattle.banded_columns.specs.declared.LegendBand.{LegendBand}
+use Rattle.banded_columns.specs.Order.{startsBelowEnd, clears, ascendingDisjoint}
+use Rattle.banded_columns.proofs.Ordering.{starts-below, disjoint, end-start, each-at, next-at}
+use Rattle.banded_rule.specs.forms.Columns.{bandAt, fromColumns}
 
 module _ (starts ends : List Float) where
   abbrev start : ℕ → Float
@@ -30,42 +28,37 @@ module _ (starts ends : List Float) where
     pub startsAscend : T (le (start i) (start j))
     pub past : T (le (end i) (start j))
 
-  abbrev next : ℕ → Bool
-  next n = le (start n) (start (suc n)) && le (end n) (start (suc n))
-
-  next-clears : (n : ℕ) → T (next n) → Clears n (suc n)
-  next-clears n h = record { startsAscend = and-l (le (start n) (start (suc n))) (le (end n) (start (suc n))) h; past = and-r (le (start n) (start (suc n))) (le (end n) (start (suc n))) h }
+  -- of the bands below count each clears all before it
+  abbrev pub Ascent : (count : ℕ) → Type 0
+  Ascent count = (i j : ℕ) → i < j → j < count → Clears i j
 
   both-clear : (i j k : ℕ) → Clears i j → Clears j k → Clears i k
   both-clear i j k p q = record { startsAscend = le-le (start i) (start j) (start k) (p .startsAscend) (q .startsAscend); past = le-le (end i) (start j) (start k) (p .past) (q .startsAscend) }
 
-  pub later-clears : (count : ℕ) → T (apart starts ends count) → (i j : ℕ) → i < j → j < count → Clears i j
-  unfolding apart
-  later-clears zero h i j p q = absurd (omega arith)
-  later-clears (suc zero) h i j p q = absurd (omega arith)
-  later-clears (suc (suc n)) h i j p q =
-      let rest = and-l (apart starts ends (suc n)) (next n) h in
-      let last = next-clears n (and-r (apart starts ends (suc n)) (next n) h) in
+  by-next : (count : ℕ) → ((i : ℕ) → suc i < count → Clears i (suc i)) → Ascent count
+  by-next count next i zero p q = absurd (omega arith)
+  by-next count next i (suc j) p q =
       ⊎-elim
-      (λ (e : j ≡ suc n). subst (Clears i) (sym e)
-      (⊎-elim
-      (λ (g : i ≡ n). subst (λ (k : ℕ). Clears k (suc n)) (sym g) last)
-      (λ (g : i < n). both-clear i n (suc n) (later-clears (suc n) rest i n g (omega arith)) last)
-      (eq-or-lt-of-le (omega arith))))
-      (λ (g : j < suc n). later-clears (suc n) rest i j p g)
+      (λ (e : i ≡ j). subst (λ (k : ℕ). Clears k (suc j)) (sym e) (next j q))
+      (λ (g : i < j). both-clear i j (suc j) (by-next count next i j g (omega arith)) (next j q))
       (eq-or-lt-of-le (omega arith))
 
-  -- one band more, as the code compares it
-  pub one-more : (i : ℕ) → 0 < i → apart starts ends (i + 1) ≡ ((apart starts ends i && le (start (i - 1)) (start i)) && le (end (i - 1)) (start i))
-  unfolding apart
-  one-more zero p = absurd (omega arith)
-  one-more (suc n) p =
-      let e : suc n - 1 ≡ n = omega arith in
-      rw (add-one (suc n), e) (sym (and-and (apart starts ends (suc n)) (le (start n) (start (suc n))) (le (end n) (start (suc n)))))
+  module _ (colors : List ℕ) where
+    abbrev f : ℕ → LegendBand
+    f = bandAt starts ends colors
 
-  -- none or one
-  pub few : (i : ℕ) → i ≤ 1 → apart starts ends i ≡ true
-  unfolding apart
-  few zero h = refl
-  few (suc zero) h = refl
-  few (suc (suc i)) h = absurd (omega arith)
+    columns-ascend : (count : ℕ) → T (ascendingDisjoint (tabulate count f)) → Ascent count
+    columns-ascend zero h i j p q = absurd (omega arith)
+    columns-ascend (suc n) h i j p q = by-next (suc n) next i j p q
+      where
+        below : (k : ℕ) → k < suc n → T (startsBelowEnd (f k))
+        below = each-at startsBelowEnd (suc n) f (starts-below (tabulate (suc n) f) h)
+
+        next : (k : ℕ) → suc k < suc n → Clears k (suc k)
+        next k q =
+            let e : T (le (end k) (start (suc k))) = end-start (f k) (f (suc k)) (below k (omega arith)) (below (suc k) q) (next-at clears n f (disjoint (tabulate (suc n) f) h) k (omega arith)) in
+            record { startsAscend = lt→le (start k) (start (suc k)) (lt-le (start k) (end k) (start (suc k)) (below k (omega arith)) e); past = e }
+
+    pub ascent : (count : ℕ) → ascendingDisjoint (fromColumns starts ends colors count) ≡ true → Ascent count
+    unfolding fromColumns
+    ascent count e = columns-ascend count (subst T (sym e) tt)

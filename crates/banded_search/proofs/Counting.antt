@@ -1,4 +1,4 @@
--- The counted place: one start more, how large it is, and what the starts are before and after it where bands are apart. Assumes nothing.
+-- The index of a band, found by counting: one start more, how large it is, and what the starts are before and after it where bands ascend and are disjoint. Assumes nothing.
 use mathlib.Core.Path.{_≡_, refl, sym, subst}
 use mathlib.Core.Bool.{Bool, true, false, not, cond}
 use mathlib.Core.List.{List}
@@ -14,9 +14,8 @@ use lib.ListN.{getD}
 use mir.Val.{boolByte}
 use Rattle.lists.proofs.Numbers.{lt-or-le}
 use Rattle.floats.proofs.Order.{le-le, lt-le, lt-not-le}
-use Rattle.banded_search.specs.forms.Ascending.{apart}
 use Rattle.banded_search.specs.forms.Indices.{bandIndex, heldAt}
-use Rattle.banded_search.proofs.Ascent.{later-clears}
+use Rattle.banded_search.proofs.Ascent.{Ascent}
 
 at-most-one : (t : Bool) → cond t 1 0 ≤ 1
 at-most-one true = omega arith
@@ -79,10 +78,10 @@ module _ (starts : List Float) (v : Float) where
     pub later : (j : ℕ) → place < j → j < count → T (not (reached j))
 
   module _ (ends : List Float) where
-    one-start-more : (n : ℕ) → T (apart starts ends (suc (suc n))) → (t : Bool) → (T t → T (reached (suc n))) → (T (not t) → T (not (reached (suc n)))) →
+    one-start-more : (n : ℕ) → Ascent starts ends (suc (suc n)) → (t : Bool) → (T t → T (reached (suc n))) → (T (not t) → T (not (reached (suc n)))) →
         Stands (suc n) (bandIndex starts (suc n) v) → Stands (suc (suc n)) (bandIndex starts (suc n) v + cond t 1 0)
     one-start-more n a true f g s =
-        let e : bandIndex starts (suc n) v ≡ n = all-count n (λ j p q. le-le (start j) (start (suc n)) v (later-clears starts ends (suc (suc n)) a j (suc n) (omega arith) (omega arith) .startsAscend) (f tt)) in
+        let e : bandIndex starts (suc n) v ≡ n = all-count n (λ j p q. le-le (start j) (start (suc n)) v (a j (suc n) (omega arith) (omega arith) .startsAscend) (f tt)) in
         let d : suc n ≡ bandIndex starts (suc n) v + 1 = omega arith in
         record { here = λ p. subst (λ (k : ℕ). T (reached k)) d (f tt); later = λ j p q. absurd (omega arith) }
     one-start-more n a false f g s =
@@ -95,21 +94,20 @@ module _ (starts : List Float) (v : Float) where
               (eq-or-lt-of-le (omega arith));
         }
 
-    stands : (count : ℕ) → T (apart starts ends count) → Stands count (bandIndex starts count v)
+    stands : (count : ℕ) → Ascent starts ends count → Stands count (bandIndex starts count v)
     unfolding bandIndex
     stands zero a = record { here = λ p. absurd (omega arith); later = λ j p q. absurd (omega arith) }
     stands (suc zero) a = record { here = λ p. absurd (omega arith); later = λ j p q. absurd (omega arith) }
-    stands (suc (suc n)) a = one-start-more n a (reached (suc n)) (λ h. h) (λ h. h) (stands (suc n) (unfold apart in and-l (apart starts ends (suc n)) _ a))
+    stands (suc (suc n)) a = one-start-more n a (reached (suc n)) (λ h. h) (λ h. h) (stands (suc n) (λ i j p q. a i j p (omega arith)))
 
     -- no band but the one at the place holds the sample
-    pub no-other : (count : ℕ) → apart starts ends count ≡ true → (j : ℕ) → j < count → (j ≡ bandIndex starts count v → ⊥) → T (not (heldAt starts ends j v))
-    no-other count e j q d =
-        let a : T (apart starts ends count) = subst T (sym e) tt in
+    pub no-other : (count : ℕ) → Ascent starts ends count → (j : ℕ) → j < count → (j ≡ bandIndex starts count v → ⊥) → T (not (heldAt starts ends j v))
+    no-other count a j q d =
         let p = bandIndex starts count v in
         not-T (heldAt starts ends j v)
         (λ (h : T (heldAt starts ends j v)). elim (lt-or-le j p) [
           | inl l ↦ lt-not-le v (start p)
-              (lt-le v (getD ends j nan) (start p) (and-r (reached j) (lt v (getD ends j nan)) h) (later-clears starts ends count a j p l (place-below count (omega arith)) .past))
+              (lt-le v (getD ends j nan) (start p) (and-r (reached j) (lt v (getD ends j nan)) h) (a j p l (place-below count (omega arith)) .past))
               (stands count a .here (omega arith))
           | inr l ↦ T-not (reached j) (stands count a .later j (elim (eq-or-lt-of-le l) [ inl x ↦ absurd (d (sym x)) | inr x ↦ x ]) q) (and-l (reached j) (lt v (getD ends j nan)) h)
         ])

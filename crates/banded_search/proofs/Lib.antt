@@ -3,3 +3,4 @@ pub mod ScanByIndices
 pub mod Ascent
 pub mod Counting
 pub mod Indexing
+pub mod ColumnTests

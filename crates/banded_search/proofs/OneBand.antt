@@ -1,4 +1,4 @@
--- Of bands that are apart, the first that holds a sample is the one at the sample's place, or there is none: the plain rule by the place. Assumes nothing.
+-- Of ascending disjoint bands the first that holds a sample is the one at the sample's index, or there is none: the plain rule by the index. Assumes nothing.
 use Prim.Native.Nat.{ℕ, zero, suc, _-_, _<_}
 use mathlib.Core.Path.{_≡_, refl, sym, ap, ap₂, _∙_}
 use mathlib.Core.Bool.{Bool, true, false, not, cond}
@@ -10,13 +10,14 @@ use Rattle.lists.specs.Tabulate.{tabulate}
 use Rattle.colormapper.specs.declared.UnmappableColors.{UnmappableColors}
 use Rattle.banded_columns.specs.declared.LegendBand.{LegendBand}
 use Rattle.banded_columns.specs.Band.{holds}
+use Rattle.banded_columns.specs.Order.{ascendingDisjoint}
 use Rattle.banded_rule.specs.PlainRule.{plainColor}
 use Rattle.banded_rule.specs.forms.Columns.{bandAt, fromColumns}
 use Rattle.banded_rule.specs.forms.Steps.{firstColor, edgeColor}
 use Rattle.banded_rule.proofs.Forms.{plain-packed}
-use Rattle.banded_search.specs.forms.Ascending.{apart}
 use Rattle.banded_search.specs.forms.Indices.{bandIndex, colorAt}
 use Rattle.banded_search.proofs.Counting.{place-below, no-other}
+use Rattle.banded_search.proofs.Ascent.{ascent}
 
 no-is : (t : Bool) (x y : ℕ) → T (not t) → cond t x y ≡ y
 no-is true x y h = absurd h
@@ -37,14 +38,14 @@ module _ (v : Float) (otherwise : ℕ) where
       ∙ first-one n (λ k. f (suc k)) p (omega arith) (λ j l d. h (suc j) (omega arith) (λ (e : suc j ≡ suc p). d (omega arith)))
 
 -- the plain rule's bands, by the place
-pub first-at-place : (starts ends : List Float) (colors : List ℕ) (count : ℕ) (v : Float) (otherwise : ℕ) → 0 < count → apart starts ends count ≡ true →
+pub first-at-place : (starts ends : List Float) (colors : List ℕ) (count : ℕ) (v : Float) (otherwise : ℕ) → 0 < count → ascendingDisjoint (fromColumns starts ends colors count) ≡ true →
     firstColor (fromColumns starts ends colors count) v otherwise ≡ colorAt starts ends colors (bandIndex starts count v) v otherwise
 unfolding fromColumns
 first-at-place starts ends colors count v otherwise p a =
-    first-one v otherwise count (bandAt starts ends colors) (bandIndex starts count v) (place-below starts v count p) (no-other starts v ends count a)
+    first-one v otherwise count (bandAt starts ends colors) (bandIndex starts count v) (place-below starts v count p) (no-other starts v ends count (ascent starts ends colors count a))
 
 -- the plain rule, by the place and by the colour of the edges
-pub plain-at-place : (starts ends : List Float) (colors : List ℕ) (count : ℕ) (u : UnmappableColors) (v : Float) {first last : LegendBand} {place edge : ℕ} → 0 < count → apart starts ends count ≡ true →
+pub plain-at-place : (starts ends : List Float) (colors : List ℕ) (count : ℕ) (u : UnmappableColors) (v : Float) {first last : LegendBand} {place edge : ℕ} → 0 < count → ascendingDisjoint (fromColumns starts ends colors count) ≡ true →
     place ≡ bandIndex starts count v → first ≡ bandAt starts ends colors 0 → last ≡ bandAt starts ends colors (count - 1) → edge ≡ edgeColor first last u v →
     colorAt starts ends colors place v edge ≡ plainColor (fromColumns starts ends colors count) u v
 plain-at-place starts ends colors count u v p a k x y e =

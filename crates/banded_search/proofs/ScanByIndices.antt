@@ -1,4 +1,5 @@
--- Of bands that are apart, the lane rule's scan is what the lanes' places give: each lane the colour of the band at its place where that band holds its sample, finished where each does. Assumes nothing.
+-- Of ascending disjoint bands the lane rule's scan is what the lanes' indices give: each lane the colour of the band at its index where that band holds its
+-- sample, finished where each does. Assumes nothing.
 use Prim.Native.Nat.{ℕ, zero, suc, _+_, _≤_, _<_}
 use mathlib.Core.Path.{_≡_, refl, sym, ap, ap₂, _∙_, subst}
 use mathlib.Core.Bool.{Bool, true, false, not, cond, _&&_}
@@ -18,6 +19,7 @@ use Rattle.lists.specs.Tabulate.{tabulate}
 use Rattle.lists.proofs.Numbers.{lt-or-le}
 use Rattle.lists.proofs.LanesOf.{lane-at, lanes-agree}
 use Rattle.banded_columns.specs.declared.LegendBand.{LegendBand}
+use Rattle.banded_columns.specs.Order.{ascendingDisjoint}
 use Rattle.banded_lanes.specs.Edges.{Lane}
 use Rattle.banded_lanes.specs.LaneRule.{started, over, allInside}
 use Rattle.banded_rule.specs.forms.Columns.{bandAt, fromColumns}
@@ -25,9 +27,9 @@ use Rattle.banded_lanes.specs.forms.Scanning.{allBelow, Sweep, swept, Scanned}
 use Rattle.banded_lanes.proofs.Entries.{same-rule, front, map-rule}
 use Rattle.banded_rule.proofs.Forms.{drop-band, drop-end}
 use Rattle.banded_lanes.proofs.Chunk.{below-same, all-inside}
-use Rattle.banded_search.specs.forms.Ascending.{apart}
 use Rattle.banded_search.specs.forms.Indices.{bandIndex, heldAt, colorAt, BandIndices}
 use Rattle.banded_search.proofs.Counting.{place-below, no-other}
+use Rattle.banded_search.proofs.Ascent.{ascent}
 
 -- ---- tests
 is-true : (t : Bool) → T t → t ≡ true
@@ -50,7 +52,7 @@ each-below (suc n) f h k q = elim (eq-or-lt-of-le {n = k} {m = n} (omega arith))
 abbrev laneOf : Float → (inside : Bool) (color nodata : ℕ) → Lane
 laneOf v inside color nodata = record { value = v; inside = inside; color = cond inside color nodata }
 
-module _ (starts ends : List Float) (colors : List ℕ) (count nodata n : ℕ) (value : List Float) (some : 0 < count) (far : apart starts ends count ≡ true) where
+module _ (starts ends : List Float) (colors : List ℕ) (count nodata n : ℕ) (value : List Float) (some : 0 < count) (ordered : ascendingDisjoint (fromColumns starts ends colors count) ≡ true) where
   abbrev f : ℕ → LegendBand
   f = bandAt starts ends colors
 
@@ -88,7 +90,7 @@ module _ (starts ends : List Float) (colors : List ℕ) (count nodata n : ℕ) (
   elsewhere : (i k : ℕ) → i < count → (i ≡ place k → ⊥) → over (f i) (after i k) ≡ after (i + 1) k
   unfolding place
   elsewhere i k q d =
-      ap (λ (t : Bool). cond t (laneOf (v k) true (getD colors i 0) nodata) (after i k)) (is-false (heldAt starts ends i (v k)) (no-other starts (v k) ends count far i q d))
+      ap (λ (t : Bool). cond t (laneOf (v k) true (getD colors i 0) nodata) (after i k)) (is-false (heldAt starts ends i (v k)) (no-other starts (v k) ends count (ascent starts ends colors count ordered) i q d))
       ∙ ap (λ (t : Bool). laneOf (v k) (t && held k) (getD colors (place k) 0) nodata) (same (lt-or-le (place k) i))
     where
       same : (place k < i) ⊎ (i ≤ place k) → ltb (place k) i ≡ ltb (place k) (i + 1)

@@ -9,10 +9,10 @@ ghost use Prim.Native.Nat.{_≤_};
 ghost use lib.Ieee.{nan};
 ghost use lib.ListN.{getD};
 ghost use Rattle.lists.specs.Lanes.{LanesOf};
+ghost use Rattle.banded_columns.specs.Order.{ascendingDisjoint};
 ghost use Rattle.banded_rule.specs.forms.Columns.{fromColumns};
 ghost use Rattle.banded_rule.specs.PlainRule.{plainColor};
 ghost use Rattle.banded_lanes.specs.forms.Scanning.{allBelow};
-ghost use Rattle.banded_search.specs.forms.Ascending.{apart};
 ghost use Rattle.banded_search.specs.forms.Indices.{heldAt, colorAt, IndicesInBounds};
 
 // The colours of sixteen samples at once, by the plain rule.
@@ -24,7 +24,7 @@ pub fn colors_for_numeric_values(
     u: UnmappableColors,
     value: [f32; 16],
 ) -> [u32; 16]
-    requires { ⌜ (count ≤ 64) × (apart (now starts) (now ends) count ≡ true) ⌝ }
+    requires { ⌜ (count ≤ 64) × (ascendingDisjoint (fromColumns (now starts) (now ends) (now colors) count) ≡ true) ⌝ }
     ensures { λ r. ⌜ LanesOf 0 16 (λ k. plainColor (fromColumns (now (starts .entry)) (now (ends .entry)) (now (colors .entry)) count) u (getD value k nan)) r ⌝ }
 {
     if count == 0 {

@@ -5,7 +5,8 @@ use Rattle.banded_columns.specs.Band.{lastOf}
 use Rattle.banded_rule.specs.PlainRule.{firstBand, edges, plainRule}
 use Rattle.banded_lanes.specs.Edges.{edged}
 use Rattle.banded_lanes.specs.LaneRule.{scanned, laneColors}
-use Rattle.banded_lanes.specs.Conditions.{eachBand, eachAfter, eachNext, firstAndLast}
+use Rattle.banded_columns.specs.Order.{eachBand, eachAfter, eachNext}
+use Rattle.banded_lanes.specs.Conditions.{firstAndLast}
 use Rattle.claim_chunking.specs.Cases.{caseHolds, allCasesHold, cases}
 
 pub all-hold : T (allCasesHold cases)

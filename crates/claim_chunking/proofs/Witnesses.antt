@@ -9,9 +9,10 @@ use Rattle.lists.specs.Padded.{padded}
 use Rattle.colormapper.specs.Settings.{noSettings}
 use Rattle.banded_columns.specs.declared.LegendBand.{LegendBand}
 use Rattle.banded_columns.specs.Band.{lastOf}
-use Rattle.banded_lanes.specs.Conditions.{eachBand, eachAfter, eachNext, firstAndLast}
-use Rattle.banded_lanes.proofs.Ordering.{ordered-disjoint}
-use Rattle.banded.specs.Record.{bandedOf}
+use Rattle.banded_columns.specs.Order.{eachBand, eachAfter, eachNext, ascendingDisjoint}
+use Rattle.banded_lanes.specs.Conditions.{firstAndLast}
+use Rattle.banded_columns.proofs.Ordering.{ordered-disjoint}
+use Rattle.banded.specs.Record.{bandedOf, counted}
 use Rattle.catgegoric.specs.Made.{emptyCategoric}
 use Rattle.legend.specs.declared.Legend.{Legend}
 use Rattle.legend.specs.declared.LegendKind.{LegendKind}
@@ -30,20 +31,20 @@ band start end color = record { start = ofBits binary32 start; end = ofBits bina
 
 pub banded-met : Asked (bandedLegend (bandedOf (band 0x0000_0000 0x3F80_0000 1 ∷ band 0x4000_0000 0x4040_0000 2 ∷ [])) noSettings)
 unfolding bandedOf padded eachBand eachAfter eachNext firstAndLast lastOf add sub lt le isNan ofBits
-banded-met = (record { finite = tt; starts = tt; ascending = tt; apart = tt }, tt)
+banded-met = (record { finite = tt; starts = tt; ascending = tt; disjoint = tt }, tt)
 
 pub narrowest-met : Asked (bandedLegend (bandedOf (band 0x0000_0000 0x38D1_B717 1 ∷ band 0x38D1_B717 0x3951_B717 2 ∷ [])) noSettings)
 unfolding bandedOf padded eachBand eachAfter eachNext firstAndLast lastOf add sub lt le isNan ofBits
-narrowest-met = (record { finite = tt; starts = tt; ascending = tt; apart = tt }, tt)
+narrowest-met = (record { finite = tt; starts = tt; ascending = tt; disjoint = tt }, tt)
 
 pub empty-met : Asked (bandedLegend (bandedOf []) noSettings)
 unfolding bandedOf padded eachBand eachNext firstAndLast
-empty-met = (record { finite = tt; starts = tt; ascending = tt; apart = tt }, tt)
+empty-met = (record { finite = tt; starts = tt; ascending = tt; disjoint = tt }, tt)
 
 -- ---- bands that the user does not ask for: from -infinity to 0, and from 0 to infinity
 pub infinite-met : Lawful (bandedLegend (bandedOf (band 0xFF80_0000 0x0000_0000 1 ∷ band 0x0000_0000 0x7F80_0000 2 ∷ [])) noSettings)
-unfolding bandedOf padded eachBand eachAfter eachNext firstAndLast lastOf add sub lt le isNan ofBits
-infinite-met = record { disjoint = record { starts = tt; apart = tt }; wide = tt }
+unfolding bandedOf padded ascendingDisjoint eachBand eachAfter eachNext firstAndLast lastOf add sub lt le isNan ofBits
+infinite-met = record { ordered = tt; wide = tt }
 
 -- ---- every categoric legend
 pub categoric-met : Asked (categoricLegend emptyCategoric noSettings)
@@ -52,7 +53,7 @@ categoric-met = tt
 -- ---- a legend that the user asks for is lawful
 asked-in : (k : LegendKind) (l : Legend) → AskedIn k l → LawfulIn k l
 asked-in kind.Linear l h = h
-asked-in kind.Banded l h = record { disjoint = ordered-disjoint (h .0); wide = h .1 }
+asked-in kind.Banded l h = record { ordered = ordered-disjoint (counted (l .banded)) (h .0); wide = h .1 }
 asked-in kind.CategoricNumeric l h = tt
 
 pub asked-lawful : (l : Legend) → Asked l → Lawful l

@@ -10,23 +10,24 @@ use Rattle.colormapper.specs.declared.UnmappableColors.{UnmappableColors}
 use Rattle.banded_columns.specs.declared.LegendBand.{LegendBand}
 use Rattle.banded_rule.specs.PlainRule.{plainColor}
 use Rattle.banded_lanes.specs.LaneRule.{laneColors}
-use Rattle.banded_lanes.specs.Conditions.{startsBelowEnd, clears, wideBand, eachBand, eachNext, firstAndLast}
+use Rattle.banded_columns.specs.Order.{startsBelowEnd, clears, eachBand, eachNext}
+use Rattle.banded_lanes.specs.Conditions.{wideBand, firstAndLast}
 
 -- which conditions a list keeps: each band starts below its end; none starts below the end of the one before; the first and the last are wide
 pub record Conditions : Type 0 where
   pub starts : Bool
-  pub apart : Bool
+  pub disjoint : Bool
   pub wide : Bool
 
 abbrev pub conditionsOf : List LegendBand → Conditions
-conditionsOf bands = record { starts = eachBand startsBelowEnd bands; apart = eachNext clears bands; wide = firstAndLast wideBand bands }
+conditionsOf bands = record { starts = eachBand startsBelowEnd bands; disjoint = eachNext clears bands; wide = firstAndLast wideBand bands }
 
 abbrev pub sameBool : Bool → Bool → Bool
 sameBool true b = b
 sameBool false b = not b
 
 abbrev pub sameConditions : Conditions → Conditions → Bool
-sameConditions x y = (sameBool (x .starts) (y .starts) && sameBool (x .apart) (y .apart)) && sameBool (x .wide) (y .wide)
+sameConditions x y = (sameBool (x .starts) (y .starts) && sameBool (x .disjoint) (y .disjoint)) && sameBool (x .wide) (y .wide)
 
 -- an f32 by its bits
 abbrev f32 : ℕ → Float
@@ -41,13 +42,13 @@ colors = record { nodata = 9; low = 8; high = 7 }
 -- a list, the conditions that it keeps, a chunk, and whether the chunk's first colour is the plain one
 pub record Case : Type 0 where
   pub bands : List LegendBand
-  pub kept : Conditions
+  pub keeps : Conditions
   pub chunk : List ℕ
   pub agrees : Bool
 
 unfoldable pub caseHolds : Case → Bool
 caseHolds c =
-    sameConditions (conditionsOf (c .bands)) (c .kept)
+    sameConditions (conditionsOf (c .bands)) (c .keeps)
     && sameBool (eqb (getD (laneColors (c .bands) colors (map f32 (c .chunk))) 0 0) (plainColor (c .bands) colors (f32 (getD (c .chunk) 0 0)))) (c .agrees)
 
 unfoldable pub allCasesHold : List Case → Bool
@@ -55,72 +56,72 @@ allCasesHold [] = true
 allCasesHold (c ∷ cs) = caseHolds c && allCasesHold cs
 
 abbrev all : Conditions
-all = record { starts = true; apart = true; wide = true }
+all = record { starts = true; disjoint = true; wide = true }
 
 abbrev but-starts : Conditions
-but-starts = record { starts = false; apart = true; wide = true }
+but-starts = record { starts = false; disjoint = true; wide = true }
 
-abbrev but-apart : Conditions
-but-apart = record { starts = true; apart = false; wide = true }
+abbrev but-disjoint : Conditions
+but-disjoint = record { starts = true; disjoint = false; wide = true }
 
 abbrev but-wide : Conditions
-but-wide = record { starts = true; apart = true; wide = false }
+but-wide = record { starts = true; disjoint = true; wide = false }
 
 unfoldable pub cases : List Case
 cases =
     -- 0 to 1 and 2 to 3 keep all: 0.5 beside 7
     record {
       bands = band 0x0000_0000 0x3F80_0000 1 ∷ band 0x4000_0000 0x4040_0000 2 ∷ [];
-      kept = all;
+      keeps = all;
       chunk = 0x3F00_0000 ∷ 0x40E0_0000 ∷ 0x40E0_0000 ∷ 0x40E0_0000 ∷ [];
       agrees = true;
     }
     -- 0 to E and E to 2 E, both exactly E wide, keep all: 0.00006 beside 7
     ∷ record {
       bands = band 0x0000_0000 0x38D1_B717 1 ∷ band 0x38D1_B717 0x3951_B717 2 ∷ [];
-      kept = all;
+      keeps = all;
       chunk = 0x387B_A882 ∷ 0x40E0_0000 ∷ 0x40E0_0000 ∷ 0x40E0_0000 ∷ [];
       agrees = true;
     }
     -- -infinity to 0 and 0 to infinity keep all: infinity beside 0
     ∷ record {
       bands = band 0xFF80_0000 0x0000_0000 1 ∷ band 0x0000_0000 0x7F80_0000 2 ∷ [];
-      kept = all;
+      keeps = all;
       chunk = 0x7F80_0000 ∷ 0x0000_0000 ∷ 0x0000_0000 ∷ 0x0000_0000 ∷ [];
       agrees = true;
     }
     -- 0 to 2, then 5 to 1, which ends below its start, then 1 to 3: 1.5 beside 2.5
     ∷ record {
       bands = band 0x0000_0000 0x4000_0000 1 ∷ band 0x40A0_0000 0x3F80_0000 2 ∷ band 0x3F80_0000 0x4040_0000 3 ∷ [];
-      kept = but-starts;
+      keeps = but-starts;
       chunk = 0x3FC0_0000 ∷ 0x4020_0000 ∷ 0x4020_0000 ∷ 0x4020_0000 ∷ [];
       agrees = false;
     }
     -- 0 to 2, then a band with NaN bounds, then 1 to 3: 1.5 beside 2.5
     ∷ record {
       bands = band 0x0000_0000 0x4000_0000 1 ∷ band 0x7FC0_0000 0x7FC0_0000 2 ∷ band 0x3F80_0000 0x4040_0000 3 ∷ [];
-      kept = but-starts;
+      keeps = but-starts;
       chunk = 0x3FC0_0000 ∷ 0x4020_0000 ∷ 0x4020_0000 ∷ 0x4020_0000 ∷ [];
       agrees = false;
     }
     -- 0 to 2 and 1 to 3 overlap: 1.5 beside 2.5
     ∷ record {
       bands = band 0x0000_0000 0x4000_0000 1 ∷ band 0x3F80_0000 0x4040_0000 2 ∷ [];
-      kept = but-apart;
+      keeps = but-disjoint;
       chunk = 0x3FC0_0000 ∷ 0x4020_0000 ∷ 0x4020_0000 ∷ 0x4020_0000 ∷ [];
       agrees = false;
     }
     -- the first band, 0 to 0.00005, is narrower than E: 0.00006 beside 7
     ∷ record {
       bands = band 0x0000_0000 0x3851_B717 1 ∷ band 0x3851_B717 0x3F80_0000 2 ∷ [];
-      kept = but-wide;
+      keeps = but-wide;
       chunk = 0x387B_A882 ∷ 0x40E0_0000 ∷ 0x40E0_0000 ∷ 0x40E0_0000 ∷ [];
       agrees = false;
     }
     -- the last band, 1 to 1.00005, is narrower than E: 0.99997 beside 7
     ∷ record {
       bands = band 0x0000_0000 0x3F80_0000 1 ∷ band 0x3F80_0000 0x3F80_01A3 2 ∷ [];
-      kept = but-wide;
+      keeps = but-wide;
       chunk = 0x3F7F_FE09 ∷ 0x40E0_0000 ∷ 0x40E0_0000 ∷ 0x40E0_0000 ∷ [];
       agrees = false;
     }

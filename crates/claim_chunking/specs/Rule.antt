@@ -17,7 +17,8 @@ use Rattle.colormapper.specs.Unmappable.{unmappable}
 use Rattle.painting.specs.Contracts.{PlainPainting, LanePainting}
 use Rattle.painting.specs.Chunking.{full}
 use Rattle.linear_rule.specs.Exception.{ExceptionFraction}
-use Rattle.banded_lanes.specs.Conditions.{wideBand, firstAndLast, LawfulBands, Ordered}
+use Rattle.banded_columns.specs.Order.{Ordered}
+use Rattle.banded_lanes.specs.Conditions.{wideBand, firstAndLast, LawfulBands}
 use Rattle.banded.specs.Record.{counted}
 use Rattle.legend.specs.declared.Legend.{Legend}
 use Rattle.legend.specs.declared.LegendKind.{LegendKind}

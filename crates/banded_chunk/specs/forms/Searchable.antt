@@ -4,9 +4,10 @@ use mathlib.Core.Path.{_≡_}
 use mathlib.Core.Bool.{true}
 use mathlib.Core.List.{List}
 use lib.Ieee.{Float}
-use Rattle.banded_search.specs.forms.Ascending.{apart}
+use Rattle.banded_columns.specs.Order.{ascendingDisjoint}
+use Rattle.banded_rule.specs.forms.Columns.{fromColumns}
 
--- there are bands, and they are apart
-pub record Searchable (starts ends : List Float) (count : ℕ) : Type 0 where
+-- there are bands, and they ascend and are disjoint
+pub record Searchable (starts ends : List Float) (colors : List ℕ) (count : ℕ) : Type 0 where
   pub some : 0 < count
-  pub far : apart starts ends count ≡ true
+  pub ordered : ascendingDisjoint (fromColumns starts ends colors count) ≡ true

@@ -28,7 +28,7 @@ sub-loop : tie.Need-sub-loop Inv-loop μ-loop
 sub-loop c = search needs
 
 block-requires : tie.Need-block-requires Inv-loop μ-loop
-block-requires c κs = (search needs, λ h. sym (c .before .before .before .ascending-disjoint .ensures) ∙ h, omega arith, omega arith)
+block-requires c κs = (search needs, λ h. sym (c .before .before .before .ascending-disjoint .ensures _) ∙ h, omega arith, omega arith)
 
 add-base : tie.Need-add-base Inv-loop μ-loop
 add-base c = search needs
@@ -40,7 +40,7 @@ loop-again : tie.Need-loop-again Inv-loop μ-loop
 loop-again c = chunk-turn (c .before .before .before .before .before .loop .inv) (omega arith) (omega arith) (λ xs. length-map xs _) (c .before .before .block .ensures)
 
 rest-requires : tie.Need-rest-requires Inv-loop μ-loop
-rest-requires c κs = (search needs, λ h. sym (c .before .before .before .ascending-disjoint .ensures) ∙ h, search needs, omega arith, search needs)
+rest-requires c κs = (search needs, λ h. sym (c .before .before .before .ascending-disjoint .ensures _) ∙ h, search needs, omega arith, search needs)
 
 same-length : tie.Need-same-length Inv-loop μ-loop
 same-length c = search needs

@@ -13,16 +13,17 @@ use Rattle.banded_lanes.proofs.LaneLaw.{lane-length}
 use Rattle.painting.proofs.Refusals.{lane-sizes}
 use Rattle.painting.proofs.Steps.{InChunks, chunks-start, chunk-turn, chunks-end}
 use Rattle.painting.proofs.Masking.{length-masked}
+use Rattle.banded_columns.specs.Order.{ascendingDisjoint}
 use Rattle.banded_rule.specs.forms.Columns.{fromColumns}
-use Rattle.banded_search.specs.forms.Ascending.{apart}
 use Rattle.banded_chunk.specs.forms.Samples.{plainSample, laneChunk}
 use Rattle.banded_chunk.specs.forms.Searchable.{Searchable}
 use Rattle.banded_paint.proofs.paint_simd.Statement.{statement}
 use Rattle.banded_paint.proofs.paint_simd.Tie as tie
 
 -- what the two tests tell where both hold
-both-asked : {starts ends : List Float} {count : ℕ} {asked : Bool} → asked ≡ apart starts ends count → (asked && ltb 0 count) ≡ true → Searchable starts ends count
-both-asked {count = count} {asked = true} e h = record { some = ltb-true 0 count h; far = sym e }
+both-asked : {starts ends : List Float} {colors : List ℕ} {count : ℕ} {asked : Bool} → asked ≡ ascendingDisjoint (fromColumns starts ends colors count)
+    → (asked && ltb 0 count) ≡ true → Searchable starts ends colors count
+both-asked {count = count} {asked = true} e h = record { some = ltb-true 0 count h; ordered = sym e }
 both-asked {asked = false} e h = absurd (subst T (sym h) tt)
 
 abbrev Inv-loop : tie.InvT-loop
@@ -43,7 +44,7 @@ sub-loop c = search needs
 chunk-searched-requires : tie.Need-chunk-searched-requires Inv-loop μ-loop
 chunk-searched-requires c κs =
     let s = c .before .before .before .before .before .before .before .before in
-    (search needs, both-asked (c .before .before .before .before .before .ascending-disjoint .ensures) (c .before .if1 .taken), s .pre .1, omega arith, omega arith)
+    (search needs, both-asked (c .before .before .before .before .before .ascending-disjoint .ensures _) (c .before .if1 .taken), s .pre .1, omega arith, omega arith)
 
 chunk-requires : tie.Need-chunk-requires Inv-loop μ-loop
 chunk-requires c κs = (search needs, c .before .before .before .before .before .before .before .before .pre .1, omega arith, omega arith)
@@ -60,7 +61,15 @@ loop-again c =
     (⊎-elim (λ w. w .5 ∙ w .2 .ensures) (λ w. w .5 ∙ w .2 .ensures) (c .if1 .came))
 
 rest-requires : tie.Need-rest-requires Inv-loop μ-loop
-rest-requires c κs = (search needs, λ h. both-asked (c .before .before .before .before .ascending-disjoint .ensures) h .far, search needs, omega (arith, lane-sizes (c .before .before .before .before .before .before .before .args .l) (c .before .before .before .before .before .before .before .pre .1) .1), search needs)
+rest-requires c κs =
+    let s = c .before .before .before .before in
+    let b = s .before .before .before in (
+      search needs,
+      λ h. both-asked {colors = b .args .colors .now} (s .ascending-disjoint .ensures _) h .ordered,
+      search needs,
+      omega (arith, lane-sizes (b .args .l) (b .pre .1) .1),
+      search needs,
+    )
 
 same-length : tie.Need-same-length Inv-loop μ-loop
 same-length c = search needs

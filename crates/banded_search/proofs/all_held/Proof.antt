@@ -2,13 +2,13 @@
 use borrow.Author.Needs.{needs}
 use Prim.Native.Nat.{ℕ, _-_, _≤_}
 use mathlib.Core.Bool.{Bool, _&&_}
-use mathlib.Core.Path.{_≡_, refl, ap, _∙_}
+use mathlib.Core.Path.{_≡_, refl, sym, ap, _∙_}
 use native.Mathlib.Omega.{arith}
 use lib.Ieee.{lt, le, nan}
 use lib.ListN.{getD}
 use Rattle.banded_lanes.proofs.Chunk.{below-more}
 use Rattle.banded_lanes.specs.forms.Scanning.{allBelow}
-use Rattle.banded_search.proofs.Ascent.{and-and}
+use Rattle.banded_columns.proofs.Ordering.{and-and}
 use Rattle.banded_search.specs.forms.Indices.{heldAt}
 use Rattle.banded_search.proofs.all_held.Statement.{statement}
 use Rattle.banded_search.proofs.all_held.Tie as tie
@@ -70,7 +70,7 @@ loop-again c =
     let f : ℕ → Bool = λ k. heldAt (a .starts .now) (a .ends .now) (getD (a .t4) k 0) (getD (a .t5) k nan) in
     let s = le (getD (a .starts .now) (getD (a .t4) i 0) nan) (getD (a .t5) i nan) in
     let e = lt (getD (a .t5) i nan) (getD (a .ends .now) (getD (a .t4) i 0) nan) in
-    (omega arith, ap (λ (b : Bool). (b && s) && e) (l .loop .inv .1) ∙ and-and (allBelow i f) s e ∙ below-more i f)
+    (omega arith, ap (λ (b : Bool). (b && s) && e) (l .loop .inv .1) ∙ sym (and-and (allBelow i f) s e) ∙ below-more i f)
 
 returns : tie.Need-returns Inv-loop μ-loop
 returns c =

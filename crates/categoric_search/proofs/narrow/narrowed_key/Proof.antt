@@ -13,7 +13,7 @@ use Rattle.categoric_search.proofs.NearKeys.{key-fits}
 use Rattle.categoric_search.proofs.narrow.narrowed_key.Statement.{statement}
 use Rattle.categoric_search.proofs.narrow.narrowed_key.Tie as tie
 
-kept-is : (c : tie.Joined1) → toZ w64 (c .if1 .clamp) ≡ narrowKey (Whole (c .before .before .args .key))
+kept-is : (c : tie.Joined1) → toZ w64 (c .if1 .kept) ≡ narrowKey (Whole (c .before .before .args .key))
 unfolding narrowKey
 kept-is c =
     let z = c .before .before .args .key in
