@@ -28,7 +28,7 @@ use Rattle.interpolate.specs.Fraction.{fraction, plainFraction}
 use Rattle.lookup.specs.Entries.{plainEntry, laneEntry}
 use Rattle.linear_rule.specs.Rule as linear
 use Rattle.banded_columns.specs.declared.LegendBand.{LegendBand}
-use Rattle.banded_columns.specs.Band.{caseHolds, lastOf}
+use Rattle.banded_columns.specs.Band.{holds, lastOf}
 use Rattle.banded_rule.specs.forms.Steps.{firstColor, edgeColor}
 use Rattle.banded_rule.specs.PlainRule as bands
 use Rattle.banded_rule.proofs.Forms.{plain-form, edge-chain}
@@ -142,16 +142,16 @@ module _ (s t : Bool) where
   module _ (cmap : List ℕ) (start end : Float) (u : UnmappableColors) where
     pub lane-zeros : linear.laneColor cmap start end u x ≡ linear.laneColor cmap start end u y
     unfolding linear.laneColor linear.laneRule
-    lane-zeros = ap (ruleColor (linear.linearRuleColors cmap u)) (range-zeros start end rule.low rule.high (ap (λ (f : Float). linear.looked (laneEntry f)) (fraction-zeros start end)))
+    lane-zeros = ap (ruleColor (linear.linearRuleColors cmap u)) (range-zeros start end rule.low rule.high (ap (λ (f : Float). linear.entryRule (laneEntry f)) (fraction-zeros start end)))
 
     pub plain-zeros : linear.plainColor cmap start end u x ≡ linear.plainColor cmap start end u y
     unfolding linear.plainColor linear.plainRule plainFraction
     plain-zeros =
         ap (ruleColor (linear.linearRuleColors cmap u))
-        (range-zeros start end rule.low rule.high (ap (λ (f : Float). linear.looked (plainEntry (cond (lt end start) nought f))) (fraction-zeros start end)))
+        (range-zeros start end rule.low rule.high (ap (λ (f : Float). linear.entryRule (plainEntry (cond (lt end start) nought f))) (fraction-zeros start end)))
 
   -- banded
-  holds-zeros : (b : LegendBand) → caseHolds b x ≡ caseHolds b y
+  holds-zeros : (b : LegendBand) → holds b x ≡ holds b y
   holds-zeros b = ap₂ (λ (p q : Bool). p && q) (le-right x y zeros (b .start)) (lt-left x y zeros (b .end))
 
   first-zeros : (bs : List LegendBand) {c d : ℕ} → c ≡ d → firstColor bs x c ≡ firstColor bs y d

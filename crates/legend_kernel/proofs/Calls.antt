@@ -45,9 +45,9 @@ module _ (l : Legend) (nodata : Nodata) (xs : List Float) (out : List ℕ) (n : 
     lanes-done e {out'} supported w k =
         let sizes = lane-sizes L (lanes-free e .count) in
         let whole : List ℕ = cond (p .simd) (lanePainted L (p .chunk) (p .plain) xs) (plainPainted (p .plain) xs) in
-        let scratch-after : List ℕ = cond (p .simd) (scratchAfter L out' scratch) scratch in
+        let kept : List ℕ = cond (p .simd) (scratchAfter L out' scratch) scratch in
         record {
           answered = lane-asked ∙ ap (λ (t : ℕ). laneRefusal (p .stored) L (length scratch) t (length out)) m;
           output = w ∙ sym (painted-lanes p L xs (λ (z : L ≡ 0). omega (arith, sizes .0, z))) ∙ sym (when-done whole out e);
-          scratch-after = k ∙ ap (λ (b : Bool). cond b (scratchAfter L out' scratch) scratch) (supported ∙ sym (simd-is l nodata)) ∙ sym (when-done scratch-after scratch e);
+          scratch-after = k ∙ ap (λ (b : Bool). cond b (scratchAfter L out' scratch) scratch) (supported ∙ sym (simd-is l nodata)) ∙ sym (when-done kept scratch e);
         }

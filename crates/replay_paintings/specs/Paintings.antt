@@ -79,8 +79,8 @@ abbrev pub paintingsOf : Legend → (row : List ℕ) → Paintings
 paintingsOf legend row = paintingsIn (getD row 8 0) legend row
 
 -- ---- in their places
-abbrev pub withLanes : LaneWords → (at scratch-after : ℕ) → List ℕ → List ℕ
-withLanes lanes at scratch-after row = putAt scratch-after (lanes .scratch) (putAt at (lanes .words) row)
+abbrev pub withLanes : LaneWords → (at kept : ℕ) → List ℕ → List ℕ
+withLanes lanes at kept row = putAt kept (lanes .scratch) (putAt at (lanes .words) row)
 
 unfoldable pub withPaintings : Paintings → List ℕ → List ℕ
 withPaintings p row =

@@ -41,8 +41,8 @@ pub fn painted(legend: Legend, row: &[u32; 1680]) -> Paintings
 }
 
 fn with_lanes(row: [u32; 1680], lanes: LaneWords, at: usize, kept: usize) -> [u32; 1680]
-    requires { ⌜ (at + 40 ≤ 1680) × (scratch-after + 16 ≤ 1680) ⌝ }
-    ensures { λ r. ⌜ r ≡ withLanes lanes at scratch-after row ⌝ }
+    requires { ⌜ (at + 40 ≤ 1680) × (kept + 16 ≤ 1680) ⌝ }
+    ensures { λ r. ⌜ r ≡ withLanes lanes at kept row ⌝ }
 {
     let words = lanes.words;
     let scratch = lanes.scratch;
