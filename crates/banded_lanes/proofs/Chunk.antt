@@ -14,9 +14,9 @@ use Rattle.lists.proofs.LanesOf.{lane-at, lanes-own, lanes-blank}
 use Rattle.banded_columns.specs.declared.LegendBand.{LegendBand}
 use Rattle.banded_columns.specs.Band.{holds}
 use Rattle.banded_lanes.specs.Edges.{Lane}
-use Rattle.banded_lanes.specs.LaneRule.{started, over, allInside, scanned}
+use Rattle.banded_lanes.specs.LaneRule.{started, over, allInside, Sweep, swept}
 use Rattle.banded_rule.specs.forms.Columns.{bandAt, fromColumns}
-use Rattle.banded_lanes.specs.forms.Scanning.{allBelow, Sweep, swept, Scanned}
+use Rattle.banded_lanes.specs.forms.Scanning.{allBelow, Scanned}
 use Rattle.banded_lanes.proofs.Entries.{same-rule, front, map-rule, map-same}
 use Rattle.banded_rule.proofs.Forms.{drop-band, drop-end}
 
@@ -42,20 +42,6 @@ below-same (suc n) f g h = ap₂ (λ (a b : Bool). a && b) (below-same n f g (λ
 pub below-more : (i : ℕ) (f : ℕ → Bool) → (allBelow i f && f i) ≡ allBelow (i + 1) f
 unfolding allBelow
 below-more i f = sym (ap (λ (n : ℕ). allBelow n f) (add-one i))
-
--- ---- the rule in two steps: the bands, then the edges of a chunk that no band finished
-unfoldable pub settle : (Lane → ℕ) → Sweep → List ℕ
-settle edge s = cond (s .finished) (map (λ (l : Lane). l .color) (s .lanes)) (map edge (s .lanes))
-
-pub two-steps : (edge : Lane → ℕ) (bs : List LegendBand) (ls : List Lane) → scanned edge bs ls ≡ settle edge (swept bs ls)
-unfolding scanned swept settle
-two-steps edge [] ls = refl
-two-steps edge (b ∷ bs) ls = go (allInside (map (over b) ls)) (two-steps edge bs (map (over b) ls))
-  where
-    go : (t : Bool) → scanned edge bs (map (over b) ls) ≡ settle edge (swept bs (map (over b) ls)) →
-        cond t (map (λ (l : Lane). l .color) (map (over b) ls)) (scanned edge bs (map (over b) ls)) ≡ settle edge (cond t (record { finished = true; lanes = map (over b) ls }) (swept bs (map (over b) ls)))
-    go true e = refl
-    go false e = e
 
 -- bands keep the lanes' values
 kept : (b : LegendBand) (l : Lane) → over b l .value ≡ l .value

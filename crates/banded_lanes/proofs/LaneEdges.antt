@@ -19,13 +19,13 @@ use Rattle.colormapper.specs.declared.UnmappableColors.{UnmappableColors}
 use Rattle.banded_columns.specs.declared.LegendBand.{LegendBand}
 use Rattle.banded_lanes.specs.declared.Scan.{Scan}
 use Rattle.banded_lanes.specs.Edges.{Lane, edged, laneEdgeColor}
-use Rattle.banded_lanes.specs.LaneRule.{started, laneColors}
+use Rattle.banded_lanes.specs.LaneRule.{started, Sweep, swept, chunkColors, laneColors}
 use Rattle.banded_rule.specs.forms.Columns.{bandAt, fromColumns}
-use Rattle.banded_lanes.specs.forms.Scanning.{Sweep, swept, Scanned}
+use Rattle.banded_lanes.specs.forms.Scanning.{Scanned}
 use Rattle.banded_rule.proofs.Forms.{drop-end}
-use Rattle.banded_lanes.proofs.LaneForms.{lane-none, lane-packed}
+use Rattle.banded_lanes.proofs.LaneForms.{lane-none, lane-columns}
 use Rattle.banded_lanes.proofs.Entries.{map-rule}
-use Rattle.banded_lanes.proofs.Chunk.{settle, two-steps, values-kept}
+use Rattle.banded_lanes.proofs.Chunk.{values-kept}
 
 module _ (starts ends : List Float) (colors : List ℕ) (count : ℕ) (u : UnmappableColors) (n : ℕ) (value : List Float) where
   abbrev f : ℕ → LegendBand
@@ -58,9 +58,9 @@ module _ (starts ends : List Float) (colors : List ℕ) (count : ℕ) (u : Unmap
     edge = edged u (f 0) (f (count - 1))
 
     by-edges : (t : Bool) → 0 < count → scan .finished ≡ t → laneColors bands u (take n value) ≡ cond t (map (λ (l : Lane). l .color) lasts) (map edge lasts)
-    unfolding settle lasts
+    unfolding chunkColors lasts
     by-edges t p e =
-        lane-packed starts ends colors count u (take n value) p ∙ two-steps edge bands chunk
+        lane-columns starts ends colors count u (take n value) p
         ∙ ap (λ (b : Bool). cond b (map (λ (l : Lane). l .color) (swept bands chunk .lanes)) (map edge (swept bands chunk .lanes))) (sym (s .finished) ∙ e)
 
     -- no bands finish no chunk

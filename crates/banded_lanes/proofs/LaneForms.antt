@@ -10,7 +10,7 @@ use Rattle.banded_columns.specs.declared.LegendBand.{LegendBand}
 use Rattle.banded_rule.specs.forms.Columns.{bandAt, fromColumns}
 use Rattle.banded_rule.proofs.Forms.{last-is}
 use Rattle.banded_lanes.specs.Edges.{edged}
-use Rattle.banded_lanes.specs.LaneRule.{started, scanned, laneColors}
+use Rattle.banded_lanes.specs.LaneRule.{started, swept, chunkColors, laneColors}
 
 module _ (starts ends : List Float) (colors : List ℕ) where
   abbrev f : ℕ → LegendBand
@@ -23,7 +23,10 @@ module _ (starts ends : List Float) (colors : List ℕ) where
   unfolding fromColumns tabulate laneColors
   lane-none count u vs e = ap (λ (n : ℕ). laneColors (bands n) u vs) e
 
-  pub lane-packed : (count : ℕ) (u : UnmappableColors) (vs : List Float) → 0 < count → laneColors (bands count) u vs ≡ scanned (edged u (f 0) (f (count - 1))) (bands count) (map (started (u .nodata)) vs)
+  pub lane-columns : (count : ℕ) (u : UnmappableColors) (vs : List Float) → 0 < count
+      → laneColors (bands count) u vs ≡ chunkColors (edged u (f 0) (f (count - 1))) (swept (bands count) (map (started (u .nodata)) vs))
   unfolding fromColumns tabulate laneColors
-  lane-packed zero u vs h = absurd (omega arith)
-  lane-packed (suc n) u vs h = let bs = tabulate n (λ k. f (suc k)) in ap (λ (l : LegendBand). scanned (edged u (f 0) l) (f 0 ∷ bs) (map (started (u .nodata)) vs)) (last-is starts ends colors n)
+  lane-columns zero u vs h = absurd (omega arith)
+  lane-columns (suc n) u vs h =
+      let after = swept (f 0 ∷ tabulate n (λ k. f (suc k))) (map (started (u .nodata)) vs) in
+      ap (λ (l : LegendBand). chunkColors (edged u (f 0) l) after) (last-is starts ends colors n)

@@ -1,4 +1,4 @@
--- For a sound list of bands the lane rule gives every lane that is no NaN the plain rule's colour, whatever the chunk's other lanes hold. Assumes nothing.
+-- For lawful bands the lane rule gives every lane that is no NaN the plain rule's colour, whatever the chunk's other lanes hold. Assumes nothing.
 use Prim.Native.Nat.{ℕ, zero, suc, _<_}
 use mathlib.Core.Path.{_≡_, refl, sym, ap, ap₂, _∙_, subst}
 use mathlib.Core.Bool.{Bool, true, false, cond, not}
@@ -14,21 +14,40 @@ use Rattle.banded_columns.specs.declared.LegendBand.{LegendBand}
 use Rattle.banded_columns.specs.Band.{holds, lastOf}
 use Rattle.banded_rule.specs.PlainRule.{plainRule, plainColor}
 use Rattle.banded_lanes.specs.Edges.{Lane, edged}
-use Rattle.banded_lanes.specs.LaneRule.{started, over, allInside, scanned, laneColors}
+use Rattle.banded_lanes.specs.LaneRule.{started, over, allInside, Sweep, swept, chunkColors, laneColors}
 use Rattle.banded_lanes.specs.Conditions.{LawfulBands}
 use Rattle.banded_lanes.proofs.Entries.{map-same, map-at}
 use Rattle.banded_lanes.proofs.SampleLaw.{laneIn, held, edges-law, early-law}
 
 -- ---- a chunk has as many colours as values
-long : (edge : Lane → ℕ) (bs : List LegendBand) (ls : List Lane) → length (scanned edge bs ls) ≡ length ls
-unfolding scanned
-long edge [] ls = length-map ls edge
-long edge (b ∷ bs) ls = go (allInside (map (over b) ls)) (long edge bs (map (over b) ls))
+module _ (edge : Lane → ℕ) where
+  abbrev colored : List LegendBand → List Lane → List ℕ
+  colored bs ls = chunkColors edge (swept bs ls)
+
+  -- one band more: the chunk is finished there, or goes on
+  band-first : (b : LegendBand) (bs : List LegendBand) (ls : List Lane) →
+      colored (b ∷ bs) ls ≡ cond (allInside (map (over b) ls)) (map (λ (l : Lane). l .color) (map (over b) ls)) (colored bs (map (over b) ls))
+  unfolding swept chunkColors
+  band-first b bs ls = go (allInside (map (over b) ls))
+    where
+      go : (t : Bool) → chunkColors edge (cond t (record { finished = true; lanes = map (over b) ls }) (swept bs (map (over b) ls)))
+          ≡ cond t (map (λ (l : Lane). l .color) (map (over b) ls)) (chunkColors edge (swept bs (map (over b) ls)))
+      go true = refl
+      go false = refl
+
+  no-band : (ls : List Lane) → colored [] ls ≡ map edge ls
+  unfolding swept chunkColors
+  no-band ls = refl
+
+long : (edge : Lane → ℕ) (bs : List LegendBand) (ls : List Lane) → length (colored edge bs ls) ≡ length ls
+long edge [] ls = ap length (no-band edge ls) ∙ length-map ls edge
+long edge (b ∷ bs) ls = ap length (band-first edge b bs ls) ∙ go (allInside (map (over b) ls)) (long edge bs (map (over b) ls))
   where
     colors : length (map (λ (l : Lane). l .color) (map (over b) ls)) ≡ length ls
     colors = length-map (map (over b) ls) (λ (l : Lane). l .color) ∙ length-map ls (over b)
 
-    go : (t : Bool) → length (scanned edge bs (map (over b) ls)) ≡ length (map (over b) ls) → length (cond t (map (λ (l : Lane). l .color) (map (over b) ls)) (scanned edge bs (map (over b) ls))) ≡ length ls
+    go : (t : Bool) → length (colored edge bs (map (over b) ls)) ≡ length (map (over b) ls)
+        → length (cond t (map (λ (l : Lane). l .color) (map (over b) ls)) (colored edge bs (map (over b) ls))) ≡ length ls
     go true e = colors
     go false e = e ∙ length-map ls (over b)
 
@@ -91,25 +110,27 @@ module _ (b : LegendBand) (bs : List LegendBand) (s : LawfulBands (b ∷ bs)) (u
   abbrev here : List LegendBand → Float → Lane
   here = state (u .nodata)
 
-  scan-law : (ps qs : List LegendBand) → ps ++ qs ≡ b ∷ bs → getD (scanned edge qs (map (here ps) vs)) k 0 ≡ plainColor (b ∷ bs) u v
-  unfolding scanned state
+  scan-law : (ps qs : List LegendBand) → ps ++ qs ≡ b ∷ bs → getD (colored edge qs (map (here ps) vs)) k 0 ≡ plainColor (b ∷ bs) u v
+  unfolding state
   scan-law ps [] e =
-      ap (λ (ls : List ℕ). getD ls k 0) (map-map edge (here ps) vs) ∙ map-at (λ (x : Float). edge (here ps x)) vs k nan 0 (in-chunk vs k n)
+      ap (λ (ls : List ℕ). getD ls k 0) (no-band edge (map (here ps) vs) ∙ map-map edge (here ps) vs) ∙ map-at (λ (x : Float). edge (here ps x)) vs k nan 0 (in-chunk vs k n)
       ∙ ap (λ (all : List LegendBand). edge (here all v)) (sym (append-nil ps) ∙ e) ∙ edges-law b bs s u v n (held (b ∷ bs) v)
-  scan-law ps (q ∷ qs) e = go (allInside (map (over q) (map (here ps) vs))) refl (scan-law (ps ++ (q ∷ [])) qs (append-assoc ps (q ∷ []) qs ∙ e))
+  scan-law ps (q ∷ qs) e =
+      ap (λ (ls : List ℕ). getD ls k 0) (band-first edge q qs (map (here ps) vs))
+      ∙ go (allInside (map (over q) (map (here ps) vs))) refl (scan-law (ps ++ (q ∷ [])) qs (append-assoc ps (q ∷ []) qs ∙ e))
     where
       moved : map (over q) (map (here ps) vs) ≡ map (here (ps ++ (q ∷ []))) vs
       moved = map-map (over q) (here ps) vs ∙ map-same (λ (x : Float). over q (here ps x)) (here (ps ++ (q ∷ []))) vs (state-more (u .nodata) ps q)
 
-      go : (t : Bool) → allInside (map (over q) (map (here ps) vs)) ≡ t → getD (scanned edge qs (map (here (ps ++ (q ∷ []))) vs)) k 0 ≡ plainColor (b ∷ bs) u v →
-          getD (cond t (map (λ (l : Lane). l .color) (map (over q) (map (here ps) vs))) (scanned edge qs (map (over q) (map (here ps) vs)))) k 0 ≡ plainColor (b ∷ bs) u v
+      go : (t : Bool) → allInside (map (over q) (map (here ps) vs)) ≡ t → getD (colored edge qs (map (here (ps ++ (q ∷ []))) vs)) k 0 ≡ plainColor (b ∷ bs) u v →
+          getD (cond t (map (λ (l : Lane). l .color) (map (over q) (map (here ps) vs))) (colored edge qs (map (over q) (map (here ps) vs)))) k 0 ≡ plainColor (b ∷ bs) u v
       go true a i =
           ap (λ (ls : List Lane). getD (map (λ (l : Lane). l .color) ls) k 0) moved
           ∙ ap (λ (cs : List ℕ). getD cs k 0) (map-map (λ (l : Lane). l .color) (here (ps ++ (q ∷ []))) vs)
           ∙ map-at (λ (x : Float). here (ps ++ (q ∷ [])) x .color) vs k nan 0 (in-chunk vs k n)
           ∙ early-law b bs s u v (ps ++ (q ∷ [])) qs (append-assoc ps (q ∷ []) qs ∙ e)
           (all-at (here (ps ++ (q ∷ []))) vs k (in-chunk vs k n) (subst T (sym (ap allInside (sym moved) ∙ a)) tt))
-      go false a i = ap (λ (ls : List Lane). getD (scanned edge qs ls) k 0) moved ∙ i
+      go false a i = ap (λ (ls : List Lane). getD (colored edge qs ls) k 0) moved ∙ i
 
 pub lane-law : (bands : List LegendBand) → LawfulBands bands → (u : UnmappableColors) (vs : List Float) (k : ℕ) → T (not (isNan (getD vs k nan))) → getD (laneColors bands u vs) k 0 ≡ plainColor bands u (getD vs k nan)
 unfolding laneColors plainRule

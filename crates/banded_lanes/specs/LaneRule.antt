@@ -20,12 +20,21 @@ abbrev pub allInside : List Lane → Bool
 allInside [] = true
 allInside (l ∷ ls) = l .inside && allInside ls
 
+-- a chunk after the bands: whether some band finished it, and its lanes there
+pub record Sweep : Type 0 where
+  pub finished : Bool
+  pub lanes : List Lane
+
 -- every band in order, until each lane of the chunk lies in some band: the chunk is finished there
-unfoldable pub scanned : (edge : Lane → ℕ) → List LegendBand → List Lane → List ℕ
-scanned edge [] lanes = map edge lanes
-scanned edge (b ∷ bs) lanes = cond (allInside (map (over b) lanes)) (map (λ (l : Lane). l .color) (map (over b) lanes)) (scanned edge bs (map (over b) lanes))
+unfoldable pub swept : List LegendBand → List Lane → Sweep
+swept [] lanes = record { finished = false; lanes = lanes }
+swept (b ∷ bs) lanes = cond (allInside (map (over b) lanes)) (record { finished = true; lanes = map (over b) lanes }) (swept bs (map (over b) lanes))
+
+-- a chunk that no band finished takes the colours of the edges
+unfoldable pub chunkColors : (edge : Lane → ℕ) → Sweep → List ℕ
+chunkColors edge s = cond (s .finished) (map (λ (l : Lane). l .color) (s .lanes)) (map edge (s .lanes))
 
 -- no bands: nodata
 unfoldable pub laneColors : List LegendBand → UnmappableColors → List Float → List ℕ
 laneColors [] u vs = map (λ (v : Float). u .nodata) vs
-laneColors (b ∷ bs) u vs = scanned (edged u b (lastOf b bs)) (b ∷ bs) (map (started (u .nodata)) vs)
+laneColors (b ∷ bs) u vs = chunkColors (edged u b (lastOf b bs)) (swept (b ∷ bs) (map (started (u .nodata)) vs))

@@ -21,9 +21,9 @@ use Rattle.lists.proofs.LanesOf.{lane-at, lanes-agree}
 use Rattle.banded_columns.specs.declared.LegendBand.{LegendBand}
 use Rattle.banded_columns.specs.Order.{ascendingDisjoint}
 use Rattle.banded_lanes.specs.Edges.{Lane}
-use Rattle.banded_lanes.specs.LaneRule.{started, over, allInside}
+use Rattle.banded_lanes.specs.LaneRule.{started, over, allInside, Sweep, swept}
 use Rattle.banded_rule.specs.forms.Columns.{bandAt, fromColumns}
-use Rattle.banded_lanes.specs.forms.Scanning.{allBelow, Sweep, swept, Scanned}
+use Rattle.banded_lanes.specs.forms.Scanning.{allBelow, Scanned}
 use Rattle.banded_lanes.proofs.Entries.{same-rule, front, map-rule}
 use Rattle.banded_rule.proofs.Forms.{drop-band, drop-end}
 use Rattle.banded_lanes.proofs.Chunk.{below-same, all-inside}

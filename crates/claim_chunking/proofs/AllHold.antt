@@ -4,11 +4,11 @@ use lib.Ieee.{add, sub, lt, le, ofBits, isNan}
 use Rattle.banded_columns.specs.Band.{lastOf}
 use Rattle.banded_rule.specs.PlainRule.{firstBand, edges, plainRule}
 use Rattle.banded_lanes.specs.Edges.{edged}
-use Rattle.banded_lanes.specs.LaneRule.{scanned, laneColors}
+use Rattle.banded_lanes.specs.LaneRule.{swept, chunkColors, laneColors}
 use Rattle.banded_columns.specs.Order.{eachBand, eachAfter, eachNext}
 use Rattle.banded_lanes.specs.Conditions.{firstAndLast}
 use Rattle.claim_chunking.specs.Cases.{caseHolds, allCasesHold, cases}
 
 pub all-hold : T (allCasesHold cases)
-unfolding allCasesHold caseHolds cases lastOf firstBand edges plainRule edged scanned laneColors eachBand eachAfter eachNext firstAndLast add sub lt le isNan ofBits
+unfolding allCasesHold caseHolds cases lastOf firstBand edges plainRule edged swept chunkColors laneColors eachBand eachAfter eachNext firstAndLast add sub lt le isNan ofBits
 all-hold = tt

@@ -14,7 +14,7 @@ use Rattle.linear_rule.specs.Rule as linear
 use Rattle.banded_columns.specs.Band.{lastOf}
 use Rattle.banded_rule.specs.PlainRule.{firstBand, edges, plainRule}
 use Rattle.banded_lanes.specs.Edges.{edged}
-use Rattle.banded_lanes.specs.LaneRule.{scanned, laneColors}
+use Rattle.banded_lanes.specs.LaneRule.{swept, chunkColors, laneColors}
 use Rattle.banded_lists.specs.EqualBands.{bandStep, bandStart, equalBands, equalRefusal}
 use Rattle.banded.specs.Record.{bandedOf, beside}
 use Rattle.banded.specs.EqualBands.{withEqualBands}
@@ -27,5 +27,5 @@ use Rattle.catgegoric.specs.Made.{recordOf, madeUnless, manyRefusal, valuesRefu
 use Rattle.claim_examples.specs.Examples.{gray, G, categoryOf, exampleWord, examples, allHold}
 
 pub all-hold : T (allHold examples)
-unfolding allHold examples exampleWord gray G categoryOf tabulate padded hexColor hexForm hexDigit twoDigits hexPair pairAt alphaOf ofPairs truncated plainIndex laneIndex fraction plainFraction plainEntry laneEntry step position rampColors unmappable linear.plainRule linear.laneRule linear.plainColor linear.laneColor lastOf firstBand edges plainRule edged scanned laneColors bandedOf beside bandStep bandStart equalBands equalRefusal withEqualBands words.tableRule rule.firstKey rule.keyRule rule.plainRule rule.plainColor words.tableColor rule.keyColor inserted insertedUpTo foremost hasTable tableSize written table outsideFrom recordOf madeUnless manyRefusal valuesRefusal add sub mul div lt le eq isNan ofInt ofBits
+unfolding allHold examples exampleWord gray G categoryOf tabulate padded hexColor hexForm hexDigit twoDigits hexPair pairAt alphaOf ofPairs truncated plainIndex laneIndex fraction plainFraction plainEntry laneEntry step position rampColors unmappable linear.plainRule linear.laneRule linear.plainColor linear.laneColor lastOf firstBand edges plainRule edged swept chunkColors laneColors bandedOf beside bandStep bandStart equalBands equalRefusal withEqualBands words.tableRule rule.firstKey rule.keyRule rule.plainRule rule.plainColor words.tableColor rule.keyColor inserted insertedUpTo foremost hasTable tableSize written table outsideFrom recordOf madeUnless manyRefusal valuesRefusal add sub mul div lt le eq isNan ofInt ofBits
 all-hold = tt
