@@ -1,6 +1,6 @@
 -- Categories: keys with colours, ascending, the last given of equal keys (docs/RULES.md, "Categoric"). Definitions only.
 use Prim.Native.Nat.{ℕ, zero, suc}
-use mathlib.Core.Bool.{Bool, true, cond, _&&_}
+use mathlib.Core.Bool.{cond}
 use mathlib.Core.List.{List, [], _∷_, map}
 use lib.IntN.{ℤ, pos}
 use lib.ListN.{length, getD}
@@ -33,12 +33,3 @@ keysOf cs = map (λ c. c .key) cs
 
 abbrev pub colorsOf : List Category → List ℕ
 colorsOf cs = map (λ c. c .color) cs
-
--- each key is below the next one
-abbrev pub underNext : ℤ → List ℤ → Bool
-underNext k [] = true
-underNext k (j ∷ ks) = ltZ k j
-
-unfoldable pub ascending : List ℤ → Bool
-ascending [] = true
-ascending (k ∷ ks) = underNext k ks && ascending ks

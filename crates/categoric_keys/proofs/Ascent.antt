@@ -12,7 +12,7 @@ use lib.Ieee.Fits.{and-l, and-r}
 use lib.IntN.{ℤ, pos, negsuc}
 use lib.ListN.{getD}
 use lib.Signed.{ltZ, leZ, ltZ-yes, leZ-yes, <ℤ-≤ℤ-trans, <ℤ-irrefl}
-use Rattle.categoric_keys.specs.Ascending.{ascends}
+use Rattle.categoric_lists.specs.Ascending.{ascends}
 
 -- ---- the order of two keys
 pub lt→le : (a b : ℤ) → T (ltZ a b) → T (leZ a b)

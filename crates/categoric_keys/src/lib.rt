@@ -7,7 +7,7 @@ ghost use Prim.Native.Nat.{_≤_};
 ghost use Rattle.colormapper.specs.Rule.{ruleColor};
 ghost use Rattle.categoric_table.specs.Rule.{categoricRuleColors};
 ghost use Rattle.categoric_keys.specs.Rule.{firstKey, keyColor};
-ghost use Rattle.categoric_keys.specs.Ascending.{ascends};
+ghost use Rattle.categoric_lists.specs.Ascending.{ascends};
 
 // The colour of a sample by the first entry with its key.
 pub fn key_color(

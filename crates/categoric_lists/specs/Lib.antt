@@ -1,3 +1,4 @@
 pub mod Whole
 pub mod Range
 pub mod Keys
+pub mod Ascending

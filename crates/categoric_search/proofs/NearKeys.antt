@@ -15,7 +15,7 @@ use mir.Syntax.{w32}
 use mir.Val.{SFits}
 use Rattle.cast.specs.declared.Truncated.{Truncated}
 use Rattle.cast.specs.declared.Truncated.the-variants.{Whole, Outside}
-use Rattle.categoric_keys.specs.Ascending.{ascends}
+use Rattle.categoric_lists.specs.Ascending.{ascends}
 use Rattle.categoric_keys.proofs.Ascent.{lt-lt, counted-below}
 use Rattle.categoric_search.specs.forms.Searchable.{inKeyRange, endsInKeyRange, searchable}
 use Rattle.categoric_search.specs.forms.Narrow.{none, narrowKey}

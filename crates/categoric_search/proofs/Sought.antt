@@ -15,7 +15,7 @@ use Rattle.lists.proofs.Numbers.{lt-or-le}
 use Rattle.cast.specs.declared.Truncated.{Truncated}
 use Rattle.cast.specs.declared.Truncated.the-variants.{Whole, Outside}
 use Rattle.cast.specs.Truncated.{truncated}
-use Rattle.categoric_keys.specs.Ascending.{ascends}
+use Rattle.categoric_lists.specs.Ascending.{ascends}
 use Rattle.colormapper.specs.Rule.{category, unknown, ruleColor}
 use Rattle.categoric_table.specs.Rule.{categoricRuleColors}
 use Rattle.categoric_keys.specs.Rule.{eqZ, firstKey, keyRule, keyColor}

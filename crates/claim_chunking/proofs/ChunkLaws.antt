@@ -13,7 +13,7 @@ use lib.ListN.{length, getD, length-map}
 use Rattle.cast.specs.declared.Nodata.{Nodata}
 use Rattle.colormapper.specs.Unmappable.{isNodata, unmappable}
 use Rattle.painting.specs.Masked.{masked, maskedColor}
-use Rattle.painting.specs.Chunking.{Terms, ChunkLaw, PainterLaw}
+use Rattle.painting.specs.forms.ChunkLaw.{Terms, ChunkLaw, PainterLaw}
 use Rattle.painting.proofs.Lists.{getD-map-in}
 use Rattle.painting.proofs.Masking.{length-masked, getD-masked, masked-map}
 use Rattle.linear.specs.Made.{linearColors}
@@ -35,7 +35,7 @@ use Rattle.claim_chunking.specs.Rule.{LawfulIn, RoundingExceptionIn}
 use Rattle.claim_chunking.proofs.Alike.{Alike, one, zeros}
 use Rattle.claim_chunking.proofs.Zeros.{unmappable-zeros, lane-zeros, plain-zeros, banded-zeros, categoric-zeros}
 
--- ---- how the lanes of a kind may differ: at the samples of Odd, with the two colours x and y
+-- ---- how the lanes of a kind may differ: at the samples of the exception, with the two colours x and y
 abbrev terms : (RoundingException : Float → Type 0) (x y : ℕ) → Terms
 terms RoundingException x y = record { Alike = Alike; RoundingException = RoundingException; lane-color = x; plain-color = y }
 
@@ -65,10 +65,10 @@ module _ (test : Float → Bool) (nodata : ℕ) (test-alike : (v w : Float) → 
         record {
           long = λ c e. length-masked test nodata c (map lane c) (length-map c lane) ∙ e;
           lane = λ c e k h. let v : Float = getD c k nan in ⊎-elim (λ same. inl (at c k (omega arith) ∙ same)) (λ o. inr o) (either v (test v) refl);
-          odd = λ c e k h o.
+          exception = λ c e k h o.
               let v : Float = getD c k nan in let d = odd v o in
               (at c k (omega arith) ∙ mapped v lane (d .0) ∙ d .1, mapped v plain (d .0) ∙ d .2);
-          alone = λ c d e f k h a. at c k (omega arith) ∙ masked-alike lane lane-alike (getD c k nan) (getD d k nan) a ∙ sym (at d k (omega arith));
+          by-sample = λ c d e f k h a. at c k (omega arith) ∙ masked-alike lane lane-alike (getD c k nan) (getD d k nan) a ∙ sym (at d k (omega arith));
         }
 
   -- ---- lanes that look at the whole chunk: from the law of each mappable lane. There is no exception
@@ -87,8 +87,8 @@ module _ (test : Float → Bool) (nodata : ℕ) (test-alike : (v w : Float) → 
         record {
           long = λ c e. length-masked test nodata c (colors c) (long c) ∙ e;
           lane = λ c e k h. inl (is-plain c k (omega arith));
-          odd = λ c e k h o. absurd o;
-          alone = λ c d e f k h a. is-plain c k (omega arith) ∙ masked-alike plain plain-alike (getD c k nan) (getD d k nan) a ∙ sym (is-plain d k (omega arith));
+          exception = λ c e k h o. absurd o;
+          by-sample = λ c d e f k h a. is-plain c k (omega arith) ∙ masked-alike plain plain-alike (getD c k nan) (getD d k nan) a ∙ sym (is-plain d k (omega arith));
         }
 
 -- a mappable sample is no NaN
@@ -132,8 +132,8 @@ module _ (l : Legend) (nodata : Nodata) (L : ℕ) where
             (λ v e. ⊎-elim (λ q. inl q) (λ o. inr (e, o)) (linear-law.lane-law (m .start) (m .end) v h (m .cmap) u))
             (λ v o. let d = linear-law.odd-law (m .start) (m .end) v h (m .cmap) u f g (o .1) in (o .0, d .0, d .1))
             (by-zeros lane (λ s t. lane-zeros s t (m .cmap) (m .start) (m .end) u)) L;
-        odd-in-lanes = λ v o. refl;
-        plainly-alone = masked-alike test nd test-alike plain (by-zeros plain (λ s t. plain-zeros s t (m .cmap) (m .start) (m .end) u));
+        exception-in-lanes = λ v o. refl;
+        plain-by-sample = masked-alike test nd test-alike plain (by-zeros plain (λ s t. plain-zeros s t (m .cmap) (m .start) (m .end) u));
       }
   of-kind kind.Banded f g h =
       let bs = counted (l .banded) in let u = bandedUnmappable bs (l .«mapping_config») in let nd = l .«mapping_config» .«nodata_color» in
@@ -141,8 +141,8 @@ module _ (l : Legend) (nodata : Nodata) (L : ℕ) where
       record {
         chunks = λ s. by-chunk test nd test-alike _ _ (lanes.laneColors bs u) (bands.plainColor bs u)
             (band-law.lane-length bs u) (λ c k q e. band-law.lane-law bs h u c k (real nodata flag (getD c k nan) e)) plain-alike L;
-        odd-in-lanes = λ v o. absurd o;
-        plainly-alone = masked-alike test nd test-alike (bands.plainColor bs u) plain-alike;
+        exception-in-lanes = λ v o. absurd o;
+        plain-by-sample = masked-alike test nd test-alike (bands.plainColor bs u) plain-alike;
       }
   of-kind kind.CategoricNumeric f g h =
       let m = l .categoric in let nd = l .«mapping_config» .«nodata_color» in
@@ -153,6 +153,6 @@ module _ (l : Legend) (nodata : Nodata) (L : ℕ) where
             (λ c. length-map c _)
             (λ c k q e. sym (getD-map-in (words.tableColor (m .lookup) (m .«lookup_count») nd) c k nan 0 q)
             ∙ with-table (m .keys) (m .colors) (m .count) (m .lookup) (m .«lookup_count») nd (ltb-true 0 (m .«lookup_count») s) (getD c k nan)) plain-alike L;
-        odd-in-lanes = λ v o. absurd o;
-        plainly-alone = masked-alike test nd test-alike plain plain-alike;
+        exception-in-lanes = λ v o. absurd o;
+        plain-by-sample = masked-alike test nd test-alike plain plain-alike;
       }

@@ -9,8 +9,8 @@ use lib.Ieee.Fits.{ofInt-fits}
 use lib.ListN.{getD}
 use Rattle.cast.specs.Samples.{ofU8, ofI16}
 use Rattle.cast.specs.declared.Nodata.{Nodata}
-use Rattle.painting.specs.Chunking.{PainterLaw}
-use Rattle.painting.proofs.Chunks.{chunking}
+use Rattle.painting.specs.forms.ChunkLaw.{PainterLaw}
+use Rattle.painting.proofs.Chunks.{pixel-same, pixel-differs, pixel-alone}
 use Rattle.legend.specs.declared.Legend.{Legend}
 use Rattle.legend.specs.Painters.{painter}
 use Rattle.claim_chunking.specs.Rule.{Raster, f32, u8, i16, samples, sampleAt, Lawful, ChunkingRule, PlainDone, LanesDone}
@@ -37,11 +37,8 @@ module _ (l : Legend) (start : T (fits binary32 (l .linear .start))) (end : T (f
   pub chunking-rule : ChunkingRule l (PlainDone l) (LanesDone l)
   chunking-rule =
       record {
-        same = λ nodata L r plain lanes P Q.
-            chunking (painter l nodata) L _ (painter-law nodata L) .same (samples r) (P .before) plain (Q .before) lanes (Q .scratch) (Q .scratch-after) (P .painting) (Q .painting);
-        differs = λ nodata L r plain lanes P Q.
-            chunking (painter l nodata) L _ (painter-law nodata L) .differs (samples r) (P .before) plain (Q .before) lanes (Q .scratch) (Q .scratch-after) (P .painting) (Q .painting);
+        same = λ nodata L r plain lanes P Q. pixel-same (painter l nodata) L _ (painter-law nodata L) (P .painting) (Q .painting);
+        differs = λ nodata L r plain lanes P Q. pixel-differs (painter l nodata) L _ (painter-law nodata L) (P .painting) (Q .painting);
         alone = λ nodata L r s out out' P Q e i n same.
-            chunking (painter l nodata) L _ (painter-law nodata L) .alone (samples r) (samples s) (P .before) out (P .scratch) (P .scratch-after) (Q .before) out' (Q .scratch) (Q .scratch-after)
-            (P .painting) (Q .painting) e i n (alike (sampleAt r i) (sampleAt s i) (sample-fits r i) (sample-fits s i) same);
+            pixel-alone (painter l nodata) L _ (painter-law nodata L) (P .painting) (Q .painting) e i n (alike (sampleAt r i) (sampleAt s i) (sample-fits r i) (sample-fits s i) same);
       }

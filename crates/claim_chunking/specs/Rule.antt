@@ -15,7 +15,7 @@ use Rattle.cast.specs.Samples.{ofU8, ofI16}
 use Rattle.cast.specs.declared.Nodata.{Nodata}
 use Rattle.colormapper.specs.Unmappable.{unmappable}
 use Rattle.painting.specs.Contracts.{PlainPainting, LanePainting}
-use Rattle.painting.specs.Chunking.{full}
+use Rattle.painting.specs.Painted.{full}
 use Rattle.linear_rule.specs.Exception.{ExceptionFraction}
 use Rattle.banded_columns.specs.Order.{Ordered}
 use Rattle.banded_lanes.specs.Conditions.{wideBand, firstAndLast, LawfulBands}

@@ -11,9 +11,9 @@ use lib.ListN.{length, take, drop, getD, length-drop, List·getD-append}
 use lib.Seq.{length-take-le, getD-take, getD-drop, getD-append-add}
 use Rattle.refusal.specs.declared.Answer.the-variants.{Done}
 use Rattle.lists.proofs.Numbers.{lt-or-le}
-use Rattle.painting.specs.Painted.{chunked, lanePainted}
+use Rattle.painting.specs.Painted.{chunked, full, lanePainted}
 use Rattle.painting.specs.Contracts.{Painter, PlainPainting, LanePainting}
-use Rattle.painting.specs.Chunking.{full, Terms, ChunkLaw, PainterLaw, Chunking}
+use Rattle.painting.specs.forms.ChunkLaw.{Terms, ChunkLaw, PainterLaw}
 use Rattle.painting.proofs.Lists.{getD-map-in}
 
 -- an element of a join: of the first list, or of the second, by its place there
@@ -73,7 +73,7 @@ module _ (L : ℕ) (chunk : List Float → List ℕ) (plain : Float → ℕ) (t 
   differs-chunked (suc k) xs h i l o = ⊎-elim
       (λ (b : i < L).
       let at = in-first-chunk k xs h i b in
-      let d = law .odd (first k xs h) (first-long k xs h) i b (subst (t .RoundingException) (sym (at .1)) o) in
+      let d = law .exception (first k xs h) (first-long k xs h) i b (subst (t .RoundingException) (sym (at .1)) o) in
       (at .0 ∙ d .0, ap plain (sym (at .1)) ∙ d .1))
       (λ (b : L ≤ i).
       let at = in-later-chunk k xs h i b in
@@ -89,7 +89,7 @@ module _ (L : ℕ) (chunk : List Float → List ℕ) (plain : Float → ℕ) (t 
       (λ (b : i < L).
       let x = in-first-chunk k xs h i b in
       let y = in-first-chunk k ys g i b in
-      x .0 ∙ law .alone (first k xs h) (first k ys g) (first-long k xs h) (first-long k ys g) i b (subst₂ (t .Alike) (sym (x .1)) (sym (y .1)) a) ∙ sym (y .0))
+      x .0 ∙ law .by-sample (first k xs h) (first k ys g) (first-long k xs h) (first-long k ys g) i b (subst₂ (t .Alike) (sym (x .1)) (sym (y .1)) a) ∙ sym (y .0))
       (λ (b : L ≤ i).
       let x = in-later-chunk k xs h i b in
       let y = in-later-chunk k ys g i b in
@@ -115,31 +115,36 @@ module _ (p : Painter) (L : ℕ) (t : Terms) (law : PainterLaw p L t) where
   same-at : (b : Bool) → (b ≡ true → ChunkLaw L (p .chunk) (p .plain) t) → (xs : List Float) (i : ℕ) → i < length xs
       → (getD (in-lanes b xs) i 0 ≡ p .plain (getD xs i nan)) ⊎ ((i < full L (length xs)) × t .RoundingException (getD xs i nan))
   unfolding lanePainted
-  same-at true h xs i l = same-chunked L (p .chunk) (p .plain) t (h refl) (law .plainly-alone) (length xs / L) xs (div-mul-le-self (length xs) L) i l
+  same-at true h xs i l = same-chunked L (p .chunk) (p .plain) t (h refl) (law .plain-by-sample) (length xs / L) xs (div-mul-le-self (length xs) L) i l
   same-at false h xs i l = inl (sym (getD-map-in (p .plain) xs i nan 0 l))
 
   differs-at : (b : Bool) → (b ≡ true → ChunkLaw L (p .chunk) (p .plain) t) → b ≡ true → (xs : List Float) (i : ℕ) → i < full L (length xs) → t .RoundingException (getD xs i nan)
       → (getD (in-lanes b xs) i 0 ≡ t .lane-color) × (p .plain (getD xs i nan) ≡ t .plain-color)
   unfolding lanePainted
-  differs-at true h e xs i l o = differs-chunked L (p .chunk) (p .plain) t (h refl) (law .plainly-alone) (length xs / L) xs (div-mul-le-self (length xs) L) i l o
+  differs-at true h e xs i l o = differs-chunked L (p .chunk) (p .plain) t (h refl) (law .plain-by-sample) (length xs / L) xs (div-mul-le-self (length xs) L) i l o
   differs-at false h e xs i l o = absurd (true≢false (sym e))
 
   alone-at : (b : Bool) → (b ≡ true → ChunkLaw L (p .chunk) (p .plain) t) → (xs ys : List Float) → length xs ≡ length ys → (i : ℕ) → i < length xs → t .Alike (getD xs i nan) (getD ys i nan)
       → getD (in-lanes b xs) i 0 ≡ getD (in-lanes b ys) i 0
   unfolding lanePainted
   alone-at true h xs ys e i l a =
-      alone-chunked L (p .chunk) (p .plain) t (h refl) (law .plainly-alone) (length xs / L) xs ys (div-mul-le-self (length xs) L)
+      alone-chunked L (p .chunk) (p .plain) t (h refl) (law .plain-by-sample) (length xs / L) xs ys (div-mul-le-self (length xs) L)
       (subst (λ (n : ℕ). n / L * L ≤ length ys) (sym e) (div-mul-le-self (length ys) L)) i l (omega arith) a
       ∙ ap (λ (n : ℕ). getD (chunked (n / L) L (p .chunk) (p .plain) ys) i 0) e
-  alone-at false h xs ys e i l a = sym (getD-map-in (p .plain) xs i nan 0 l) ∙ law .plainly-alone (getD xs i nan) (getD ys i nan) a ∙ getD-map-in (p .plain) ys i nan 0 (omega arith)
+  alone-at false h xs ys e i l a = sym (getD-map-in (p .plain) xs i nan 0 l) ∙ law .plain-by-sample (getD xs i nan) (getD ys i nan) a ∙ getD-map-in (p .plain) ys i nan 0 (omega arith)
 
-  pub chunking : Chunking p L t
-  chunking =
-      record {
-        same = λ xs o o' q q' s s' P Q i l.
-            ⊎-elim (λ e. inl (lane-at Q i ∙ e ∙ sym (plain-at P i l))) (λ o. inr o) (same-at (p .simd) (law .chunks) xs i l);
-        differs = λ xs o o' q q' s s' P Q i l odd.
-            let d = differs-at (p .simd) (law .chunks) (law .odd-in-lanes (getD xs i nan) odd) xs i l odd in
-            (lane-at Q i ∙ d .0, plain-at P i (lt-of-lt-of-le l (div-mul-le-self (length xs) L)) ∙ d .1);
-        alone = λ xs ys q q' s s' r r' u u' P Q e i l a. lane-at P i ∙ alone-at (p .simd) (law .chunks) xs ys e i l a ∙ sym (lane-at Q i);
-      }
+  -- ---- of any two calls that keep their contracts and are not refused, whatever output and scratch held before
+  pub pixel-same : {xs : List Float} {o o' q q' s s' : List ℕ} → PlainPainting p xs o Done o' → LanePainting p L xs q s Done q' s' → (i : ℕ) → i < length xs
+      → (getD q' i 0 ≡ getD o' i 0) ⊎ ((i < full L (length xs)) × t .RoundingException (getD xs i nan))
+  pixel-same {xs} P Q i l = ⊎-elim (λ e. inl (lane-at Q i ∙ e ∙ sym (plain-at P i l))) (λ o. inr o) (same-at (p .simd) (law .chunks) xs i l)
+
+  pub pixel-differs : {xs : List Float} {o o' q q' s s' : List ℕ} → PlainPainting p xs o Done o' → LanePainting p L xs q s Done q' s'
+      → (i : ℕ) → i < full L (length xs) → t .RoundingException (getD xs i nan) → (getD q' i 0 ≡ t .lane-color) × (getD o' i 0 ≡ t .plain-color)
+  pixel-differs {xs} P Q i l o =
+      let d = differs-at (p .simd) (law .chunks) (law .exception-in-lanes (getD xs i nan) o) xs i l o in
+      (lane-at Q i ∙ d .0, plain-at P i (lt-of-lt-of-le l (div-mul-le-self (length xs) L)) ∙ d .1)
+
+  -- the lane paintings of two rasters of one length
+  pub pixel-alone : {xs ys : List Float} {q q' s s' r r' u u' : List ℕ} → LanePainting p L xs q s Done q' s' → LanePainting p L ys r u Done r' u'
+      → length xs ≡ length ys → (i : ℕ) → i < length xs → t .Alike (getD xs i nan) (getD ys i nan) → getD q' i 0 ≡ getD r' i 0
+  pixel-alone {xs} {ys} P Q e i l a = lane-at P i ∙ alone-at (p .simd) (law .chunks) xs ys e i l a ∙ sym (lane-at Q i)

@@ -17,6 +17,9 @@ chunked zero L chunk plain xs = map plain xs
 chunked (suc k) L chunk plain xs = chunk (take L xs) ++ chunked k L chunk plain (drop L xs)
 
 -- in lanes: the full chunks are the first L × (n div L) pixels
+abbrev pub full : (L n : ℕ) → ℕ
+full L n = n / L * L
+
 unfoldable pub lanePainted : (L : ℕ) (chunk : List Float → List ℕ) (plain : Float → ℕ) → List Float → List ℕ
 lanePainted L chunk plain xs = chunked (length xs / L) L chunk plain xs
 

@@ -6,7 +6,7 @@ use Prim.Native.Nat.{_+_, _-_, _<_, min}
 use native.Mathlib.Omega.{arith}
 use mir.Syntax.{w64}
 use mir.ValLaws.{toZ-ofZ}
-use Rattle.categoric_keys.specs.Ascending.{ascends}
+use Rattle.categoric_lists.specs.Ascending.{ascends}
 use Rattle.categoric_keys.proofs.Ascent.{few, stops, goes-on}
 use Rattle.categoric_keys.proofs.ascending.Statement.{statement}
 use Rattle.categoric_keys.proofs.ascending.Tie as tie

@@ -5,7 +5,7 @@ use mathlib.Core.List.{List}
 use lib.IntN.{ℤ, pos, negsuc}
 use lib.ListN.{getD}
 use lib.Signed.{ltZ}
-use Rattle.categoric_keys.specs.Ascending.{ascends}
+use Rattle.categoric_lists.specs.Ascending.{ascends}
 
 -- from -16,777,216 to 16,777,216 (`negsuc n` is -(n + 1))
 unfoldable pub inKeyRange : ℤ → Bool

@@ -1,0 +1,2 @@
+-- How proofs and code get to the rules: each file names what it is for.
+pub mod ChunkLaw
