@@ -47,7 +47,7 @@ use denote.Triple.Spec.{tripleOf}
 use denote.Triple.Statement.{Contract, Triple}
 use denote.Triple.Walked.{says, needs, Stays, stay-none-slice, stay-none, walkOf, goes-none-slice, goes-none, Walks, ends-at, walked, walk-meets}
 use denote.Exit.{yes, Last, left}
-use Rattle.banded.specs.Given.{folded}
+use Rattle.banded.specs.forms.OneByOne.{folded}
 use Rattle.banded_columns.specs.declared.LegendBand.{LegendBand}
 use Rattle.banded_columns.proofs.Past.{noBand}
 use Rattle.banded.proofs.Rows.{Band, band-vals, band-tells, band-copy, band-makes, band-typed, offset-fits, tests}

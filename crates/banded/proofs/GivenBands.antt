@@ -17,7 +17,8 @@ use Rattle.banded_columns.specs.declared.LegendBand.{LegendBand}
 use Rattle.banded_lists.specs.Padded.{blankBand}
 use Rattle.banded.specs.declared.Banded.{Banded}
 use Rattle.banded.specs.Record.{bandedOf, beside}
-use Rattle.banded.specs.Given.{withBand, folded, givenRefusal, withBandsGiven}
+use Rattle.banded.specs.Given.{givenRefusal, withBandsGiven}
+use Rattle.banded.specs.forms.OneByOne.{withBand, folded}
 
 one-more : (xs : List LegendBand) (b : LegendBand) → length xs < 64 → withBand (bandedOf xs) b ≡ bandedOf (xs ++ (b ∷ []))
 unfolding withBand bandedOf

@@ -3,3 +3,4 @@ pub mod EqualBands
 pub mod ManualRanges
 pub mod Given
 pub mod Unmappable
+pub mod forms

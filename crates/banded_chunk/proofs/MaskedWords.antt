@@ -11,7 +11,7 @@ use Rattle.lists.specs.Lanes.{LanesOf}
 use Rattle.lists.specs.Padded.{padded}
 use Rattle.lists.proofs.Padding.{length-padded, padded-front}
 use Rattle.lists.proofs.LanesOf.{lane-at, lanes-length, lanes-padded}
-use Rattle.colormapper.specs.Unmappable.{excluded}
+use Rattle.colormapper.specs.forms.Exclusions.{excluded}
 use Rattle.painting.specs.Masked.{masked}
 use Rattle.painting.proofs.Masking.{lanes-masked, length-masked}
 use Rattle.banded_columns.specs.declared.LegendBand.{LegendBand}

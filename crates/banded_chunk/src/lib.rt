@@ -13,7 +13,7 @@ ghost use Rattle.lists.specs.Lanes.{LanesOf};
 ghost use Rattle.lists.specs.Padded.{padded};
 ghost use Rattle.banded_columns.specs.Order.{ascendingDisjoint};
 ghost use Rattle.banded_rule.specs.forms.Columns.{fromColumns};
-ghost use Rattle.painting.specs.Painted.{chunkOver};
+ghost use Rattle.painting.specs.forms.ChunkOver.{chunkOver};
 ghost use Rattle.painting.specs.Contracts.{laneCount};
 ghost use Rattle.banded_chunk.specs.forms.Samples.{plainSample, laneChunk};
 ghost use Rattle.banded_chunk.specs.forms.Searchable.{Searchable};

@@ -9,7 +9,8 @@ ghost use Prim.Native.Nat.{_+_, _≤_};
 ghost use lib.ListN.{length, take, drop};
 ghost use Rattle.banded_columns.specs.Order.{ascendingDisjoint};
 ghost use Rattle.banded_rule.specs.forms.Columns.{fromColumns};
-ghost use Rattle.painting.specs.Painted.{plainPainted, lanePainted, chunkOver};
+ghost use Rattle.painting.specs.Painted.{plainPainted, lanePainted};
+ghost use Rattle.painting.specs.forms.ChunkOver.{chunkOver};
 ghost use Rattle.painting.specs.Contracts.{laneCount};
 ghost use Rattle.banded_chunk.specs.forms.Samples.{plainSample, laneChunk};
 

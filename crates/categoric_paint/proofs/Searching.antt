@@ -5,7 +5,7 @@ use mathlib.Core.Path.{_≡_, ap}
 use Prim.Native.Nat.{ℕ}
 use lib.Ieee.{Float}
 use lib.IntN.{ℤ}
-use Rattle.colormapper.specs.Unmappable.{excluded}
+use Rattle.colormapper.specs.forms.Exclusions.{excluded}
 use Rattle.categoric_search.specs.forms.Narrow.{Narrow}
 use Rattle.categoric_search.proofs.Sought.{sample-color}
 use Rattle.painting.specs.Painted.{plainPainted}

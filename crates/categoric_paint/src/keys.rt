@@ -7,7 +7,8 @@ ghost use mathlib.Core.Path.{_≡_};
 ghost use mathlib.Core.List.{map, _++_};
 ghost use Prim.Native.Nat.{_+_, _≤_};
 ghost use lib.ListN.{length, take, drop};
-ghost use Rattle.painting.specs.Painted.{plainPainted, chunkOver};
+ghost use Rattle.painting.specs.Painted.{plainPainted};
+ghost use Rattle.painting.specs.forms.ChunkOver.{chunkOver};
 ghost use Rattle.categoric_paint.specs.forms.KeySamples.{keySample, searchSample};
 
 // ---- by keys that can be searched: the words of a block, a block of a raster, the samples after the last block, and a raster

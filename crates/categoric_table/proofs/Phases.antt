@@ -9,7 +9,7 @@ use Rattle.floats.specs.RampIndex.{floorOf}
 use Rattle.lists.specs.Lanes.{LanesOf}
 use Rattle.lists.proofs.LanesOf.{lane-at, lanes-agree}
 use Rattle.colormapper.specs.declared.Exclusions.{Exclusions}
-use Rattle.colormapper.specs.Unmappable.{excluded}
+use Rattle.colormapper.specs.forms.Exclusions.{excluded}
 use Rattle.categoric_table.specs.Rule.{tableColor}
 use Rattle.categoric_table.specs.forms.InTable.{inTable, clamp, mappableInTable}
 use Rattle.categoric_table.proofs.TableTest.{chosen}

@@ -1,6 +1,6 @@
 -- The claim over the cases: antt works each out. Assumes nothing.
 use lib.Dec.{T}
-use lib.Ieee.{add, sub, lt, le, ofBits, isNan}
+use lib.Ieee.{add, sub, div, lt, le, ofInt, ofBits, isNan}
 use Rattle.banded_columns.specs.Band.{lastOf}
 use Rattle.banded_rule.specs.PlainRule.{firstBand, edges, plainRule}
 use Rattle.banded_lanes.specs.Edges.{edged}
@@ -10,5 +10,5 @@ use Rattle.banded_lanes.specs.Conditions.{firstAndLast}
 use Rattle.claim_chunking.specs.Cases.{caseHolds, allCasesHold, cases}
 
 pub all-hold : T (allCasesHold cases)
-unfolding allCasesHold caseHolds cases lastOf firstBand edges plainRule edged swept chunkColors laneColors eachBand eachAfter eachNext firstAndLast add sub lt le isNan ofBits
+unfolding allCasesHold caseHolds cases lastOf firstBand edges plainRule edged swept chunkColors laneColors eachBand eachAfter eachNext firstAndLast add sub div lt le isNan ofInt ofBits
 all-hold = tt

@@ -2,11 +2,12 @@
 use mathlib.Core.Path.{_≡_, refl}
 use mathlib.Core.List.{[], _∷_}
 use Prim.Native.Nat.{ℕ}
-use lib.Ieee.{binary32, lt, le, add, sub, ofBits, isNan}
+use lib.Ieee.{Float, inf, binary32, lt, le, add, sub, ofInt, ofBits, isNan}
 use lib.ListN.{replicate}
 use Rattle.floats.specs.RampIndex.{nought}
 use Rattle.lists.specs.Padded.{padded}
 use Rattle.colormapper.specs.Settings.{noSettings}
+use Rattle.colormapper.specs.Tolerance.{E}
 use Rattle.banded_columns.specs.declared.LegendBand.{LegendBand}
 use Rattle.banded_columns.specs.Band.{lastOf}
 use Rattle.banded_columns.specs.Order.{eachBand, eachAfter, eachNext, ascendingDisjoint}
@@ -18,23 +19,24 @@ use Rattle.legend.specs.declared.Legend.{Legend}
 use Rattle.legend.specs.declared.LegendKind.{LegendKind}
 use Rattle.legend.specs.declared.LegendKind.the-variants as kind
 use Rattle.legend.specs.Record.{linearLegend, bandedLegend, categoricLegend}
+use Rattle.claim_examples.specs.Decimals.{whole}
 use Rattle.claim_chunking.specs.Rule.{LawfulIn, Lawful, AskedIn, Asked}
 
 -- ---- from 0 to 255
-pub linear-met : Lawful (linearLegend (record { start = nought; end = ofBits binary32 0x437F_0000; cmap = replicate 256 0 }) noSettings)
-unfolding lt ofBits
+pub linear-met : Lawful (linearLegend (record { start = nought; end = whole 255; cmap = replicate 256 0 }) noSettings)
+unfolding lt ofInt
 linear-met = refl
 
 -- ---- bands, in the user's words: 0 to 1 and 2 to 3; two bands that are exactly E wide, 0 to E and E to 2 E; none
-abbrev band : (start end color : ℕ) → LegendBand
-band start end color = record { start = ofBits binary32 start; end = ofBits binary32 end; color = color }
+abbrev band : (start end : Float) (color : ℕ) → LegendBand
+band start end color = record { start = start; end = end; color = color }
 
-pub banded-met : Asked (bandedLegend (bandedOf (band 0x0000_0000 0x3F80_0000 1 ∷ band 0x4000_0000 0x4040_0000 2 ∷ [])) noSettings)
-unfolding bandedOf padded eachBand eachAfter eachNext firstAndLast lastOf add sub lt le isNan ofBits
+pub banded-met : Asked (bandedLegend (bandedOf (band (whole 0) (whole 1) 1 ∷ band (whole 2) (whole 3) 2 ∷ [])) noSettings)
+unfolding bandedOf padded eachBand eachAfter eachNext firstAndLast lastOf add sub lt le isNan ofInt ofBits
 banded-met = (record { finite = tt; starts = tt; ascending = tt; disjoint = tt }, tt)
 
-pub narrowest-met : Asked (bandedLegend (bandedOf (band 0x0000_0000 0x38D1_B717 1 ∷ band 0x38D1_B717 0x3951_B717 2 ∷ [])) noSettings)
-unfolding bandedOf padded eachBand eachAfter eachNext firstAndLast lastOf add sub lt le isNan ofBits
+pub narrowest-met : Asked (bandedLegend (bandedOf (band (whole 0) E 1 ∷ band E (add binary32 E E) 2 ∷ [])) noSettings)
+unfolding bandedOf padded eachBand eachAfter eachNext firstAndLast lastOf add sub lt le isNan ofInt ofBits
 narrowest-met = (record { finite = tt; starts = tt; ascending = tt; disjoint = tt }, tt)
 
 pub empty-met : Asked (bandedLegend (bandedOf []) noSettings)
@@ -42,8 +44,8 @@ unfolding bandedOf padded eachBand eachNext firstAndLast
 empty-met = (record { finite = tt; starts = tt; ascending = tt; disjoint = tt }, tt)
 
 -- ---- bands that the user does not ask for: from -infinity to 0, and from 0 to infinity
-pub infinite-met : Lawful (bandedLegend (bandedOf (band 0xFF80_0000 0x0000_0000 1 ∷ band 0x0000_0000 0x7F80_0000 2 ∷ [])) noSettings)
-unfolding bandedOf padded ascendingDisjoint eachBand eachAfter eachNext firstAndLast lastOf add sub lt le isNan ofBits
+pub infinite-met : Lawful (bandedLegend (bandedOf (band (inf true) (whole 0) 1 ∷ band (whole 0) (inf false) 2 ∷ [])) noSettings)
+unfolding bandedOf padded ascendingDisjoint eachBand eachAfter eachNext firstAndLast lastOf add sub lt le isNan ofInt ofBits
 infinite-met = record { ordered = tt; wide = tt }
 
 -- ---- every categoric legend

@@ -2,16 +2,18 @@
 -- whose first shows it. Definitions only.
 use Prim.Native.Nat.{ℕ}
 use mathlib.Core.Bool.{Bool, true, false, not, _&&_}
-use mathlib.Core.List.{List, [], _∷_, map}
+use mathlib.Core.List.{List, [], _∷_}
 use lib.Dec.{eqb}
-use lib.Ieee.{Float, binary32, ofBits}
+use lib.Ieee.{Float, nan, inf, binary32, add}
 use lib.ListN.{getD}
 use Rattle.colormapper.specs.declared.UnmappableColors.{UnmappableColors}
 use Rattle.banded_columns.specs.declared.LegendBand.{LegendBand}
 use Rattle.banded_rule.specs.PlainRule.{plainColor}
 use Rattle.banded_lanes.specs.LaneRule.{laneColors}
+use Rattle.colormapper.specs.Tolerance.{E}
 use Rattle.banded_columns.specs.Order.{startsBelowEnd, clears, eachBand, eachNext}
 use Rattle.banded_lanes.specs.Conditions.{wideBand, firstAndLast}
+use Rattle.claim_examples.specs.Decimals.{whole, decimal}
 
 -- which conditions a list keeps: each band starts below its end; none starts below the end of the one before; the first and the last are wide
 pub record Conditions : Type 0 where
@@ -29,12 +31,8 @@ sameBool false b = not b
 abbrev pub sameConditions : Conditions → Conditions → Bool
 sameConditions x y = (sameBool (x .starts) (y .starts) && sameBool (x .disjoint) (y .disjoint)) && sameBool (x .wide) (y .wide)
 
--- an f32 by its bits
-abbrev f32 : ℕ → Float
-f32 bits = ofBits binary32 bits
-
-abbrev band : (start end color : ℕ) → LegendBand
-band start end color = record { start = f32 start; end = f32 end; color = color }
+abbrev band : (start end : Float) (color : ℕ) → LegendBand
+band start end color = record { start = start; end = end; color = color }
 
 abbrev colors : UnmappableColors
 colors = record { nodata = 9; low = 8; high = 7 }
@@ -43,13 +41,13 @@ colors = record { nodata = 9; low = 8; high = 7 }
 pub record Case : Type 0 where
   pub bands : List LegendBand
   pub keeps : Conditions
-  pub chunk : List ℕ
+  pub chunk : List Float
   pub agrees : Bool
 
 unfoldable pub caseHolds : Case → Bool
 caseHolds c =
     sameConditions (conditionsOf (c .bands)) (c .keeps)
-    && sameBool (eqb (getD (laneColors (c .bands) colors (map f32 (c .chunk))) 0 0) (plainColor (c .bands) colors (f32 (getD (c .chunk) 0 0)))) (c .agrees)
+    && sameBool (eqb (getD (laneColors (c .bands) colors (c .chunk)) 0 0) (plainColor (c .bands) colors (getD (c .chunk) 0 nan))) (c .agrees)
 
 unfoldable pub allCasesHold : List Case → Bool
 allCasesHold [] = true
@@ -71,58 +69,58 @@ unfoldable pub cases : List Case
 cases =
     -- 0 to 1 and 2 to 3 keep all: 0.5 beside 7
     record {
-      bands = band 0x0000_0000 0x3F80_0000 1 ∷ band 0x4000_0000 0x4040_0000 2 ∷ [];
+      bands = band (whole 0) (whole 1) 1 ∷ band (whole 2) (whole 3) 2 ∷ [];
       keeps = all;
-      chunk = 0x3F00_0000 ∷ 0x40E0_0000 ∷ 0x40E0_0000 ∷ 0x40E0_0000 ∷ [];
+      chunk = (decimal 5 10) ∷ (whole 7) ∷ (whole 7) ∷ (whole 7) ∷ [];
       agrees = true;
     }
     -- 0 to E and E to 2 E, both exactly E wide, keep all: 0.00006 beside 7
     ∷ record {
-      bands = band 0x0000_0000 0x38D1_B717 1 ∷ band 0x38D1_B717 0x3951_B717 2 ∷ [];
+      bands = band (whole 0) E 1 ∷ band E (add binary32 E E) 2 ∷ [];
       keeps = all;
-      chunk = 0x387B_A882 ∷ 0x40E0_0000 ∷ 0x40E0_0000 ∷ 0x40E0_0000 ∷ [];
+      chunk = (decimal 6 100_000) ∷ (whole 7) ∷ (whole 7) ∷ (whole 7) ∷ [];
       agrees = true;
     }
     -- -infinity to 0 and 0 to infinity keep all: infinity beside 0
     ∷ record {
-      bands = band 0xFF80_0000 0x0000_0000 1 ∷ band 0x0000_0000 0x7F80_0000 2 ∷ [];
+      bands = band (inf true) (whole 0) 1 ∷ band (whole 0) (inf false) 2 ∷ [];
       keeps = all;
-      chunk = 0x7F80_0000 ∷ 0x0000_0000 ∷ 0x0000_0000 ∷ 0x0000_0000 ∷ [];
+      chunk = (inf false) ∷ (whole 0) ∷ (whole 0) ∷ (whole 0) ∷ [];
       agrees = true;
     }
     -- 0 to 2, then 5 to 1, which ends below its start, then 1 to 3: 1.5 beside 2.5
     ∷ record {
-      bands = band 0x0000_0000 0x4000_0000 1 ∷ band 0x40A0_0000 0x3F80_0000 2 ∷ band 0x3F80_0000 0x4040_0000 3 ∷ [];
+      bands = band (whole 0) (whole 2) 1 ∷ band (whole 5) (whole 1) 2 ∷ band (whole 1) (whole 3) 3 ∷ [];
       keeps = but-starts;
-      chunk = 0x3FC0_0000 ∷ 0x4020_0000 ∷ 0x4020_0000 ∷ 0x4020_0000 ∷ [];
+      chunk = (decimal 15 10) ∷ (decimal 25 10) ∷ (decimal 25 10) ∷ (decimal 25 10) ∷ [];
       agrees = false;
     }
     -- 0 to 2, then a band with NaN bounds, then 1 to 3: 1.5 beside 2.5
     ∷ record {
-      bands = band 0x0000_0000 0x4000_0000 1 ∷ band 0x7FC0_0000 0x7FC0_0000 2 ∷ band 0x3F80_0000 0x4040_0000 3 ∷ [];
+      bands = band (whole 0) (whole 2) 1 ∷ band nan nan 2 ∷ band (whole 1) (whole 3) 3 ∷ [];
       keeps = but-starts;
-      chunk = 0x3FC0_0000 ∷ 0x4020_0000 ∷ 0x4020_0000 ∷ 0x4020_0000 ∷ [];
+      chunk = (decimal 15 10) ∷ (decimal 25 10) ∷ (decimal 25 10) ∷ (decimal 25 10) ∷ [];
       agrees = false;
     }
     -- 0 to 2 and 1 to 3 overlap: 1.5 beside 2.5
     ∷ record {
-      bands = band 0x0000_0000 0x4000_0000 1 ∷ band 0x3F80_0000 0x4040_0000 2 ∷ [];
+      bands = band (whole 0) (whole 2) 1 ∷ band (whole 1) (whole 3) 2 ∷ [];
       keeps = but-disjoint;
-      chunk = 0x3FC0_0000 ∷ 0x4020_0000 ∷ 0x4020_0000 ∷ 0x4020_0000 ∷ [];
+      chunk = (decimal 15 10) ∷ (decimal 25 10) ∷ (decimal 25 10) ∷ (decimal 25 10) ∷ [];
       agrees = false;
     }
     -- the first band, 0 to 0.00005, is narrower than E: 0.00006 beside 7
     ∷ record {
-      bands = band 0x0000_0000 0x3851_B717 1 ∷ band 0x3851_B717 0x3F80_0000 2 ∷ [];
+      bands = band (whole 0) (decimal 5 100_000) 1 ∷ band (decimal 5 100_000) (whole 1) 2 ∷ [];
       keeps = but-wide;
-      chunk = 0x387B_A882 ∷ 0x40E0_0000 ∷ 0x40E0_0000 ∷ 0x40E0_0000 ∷ [];
+      chunk = (decimal 6 100_000) ∷ (whole 7) ∷ (whole 7) ∷ (whole 7) ∷ [];
       agrees = false;
     }
     -- the last band, 1 to 1.00005, is narrower than E: 0.99997 beside 7
     ∷ record {
-      bands = band 0x0000_0000 0x3F80_0000 1 ∷ band 0x3F80_0000 0x3F80_01A3 2 ∷ [];
+      bands = band (whole 0) (whole 1) 1 ∷ band (whole 1) (decimal 100_005 100_000) 2 ∷ [];
       keeps = but-wide;
-      chunk = 0x3F7F_FE09 ∷ 0x40E0_0000 ∷ 0x40E0_0000 ∷ 0x40E0_0000 ∷ [];
+      chunk = (decimal 99_997 100_000) ∷ (whole 7) ∷ (whole 7) ∷ (whole 7) ∷ [];
       agrees = false;
     }
     ∷ []

@@ -1,6 +1,6 @@
 -- The claim over the table of first refusals: antt works each row out. Assumes nothing.
 use lib.Dec.{T}
-use lib.Ieee.{lt, le, eq, ofBits}
+use lib.Ieee.{lt, le, eq, ofInt}
 use Rattle.lists.specs.Tabulate.{tabulate}
 use Rattle.color.specs.Hex.{hexColor, hexForm, hexDigit, twoDigits, hexPair, pairAt, alphaOf, ofPairs}
 use Rattle.colormap.specs.Made.{listRefusal}
@@ -19,5 +19,5 @@ use Rattle.legend_range.specs.ValueRanges as ranges
 use Rattle.claim_examples.specs.FirstRefusals.{allGiven, rows}
 
 pub all-given : T (allGiven rows)
-unfolding allGiven rows tabulate hexColor hexForm hexDigit twoDigits hexPair pairAt alphaOf ofPairs listRefusal linear.rangeRefusal linear.linearUnless bandedOf beside bandedRefusal equalRefusal withEqualBands firstEmpty manualRefusal withManualRanges tooWide rangeKeys outsideFrom madeUnless manyRefusal valuesRefusal wideRefusal valueRangeRefusal categoricRefusal plainRefusal laneRefusal storedRefusal ranges.totalRangeRefusal lt le eq ofBits
+unfolding allGiven rows tabulate hexColor hexForm hexDigit twoDigits hexPair pairAt alphaOf ofPairs listRefusal linear.rangeRefusal linear.linearUnless bandedOf beside bandedRefusal equalRefusal withEqualBands firstEmpty manualRefusal withManualRanges tooWide rangeKeys outsideFrom madeUnless manyRefusal valuesRefusal wideRefusal valueRangeRefusal categoricRefusal plainRefusal laneRefusal storedRefusal ranges.totalRangeRefusal lt le eq ofInt
 all-given = tt

@@ -1,12 +1,13 @@
 -- The twelve examples of docs/RULES.md, in one table. Each row asks the definitions for a number: a colour's word, or a count. Definitions only.
 use mathlib.Core.Bool.{Bool, true, _&&_}
-use mathlib.Core.List.{List, [], _∷_, map}
+use mathlib.Core.List.{List, [], _∷_}
 use Prim.Native.Nat.{ℕ}
 use lib.Dec.{eqb}
 use lib.IntN.{ℤ, pos, negsuc}
-use lib.Ieee.{Float, binary32, ofBits}
+use lib.Ieee.{Float, nan, neg}
 use lib.ListN.{getD}
 use Rattle.lists.specs.Tabulate.{tabulate}
+use Rattle.floats.specs.RampIndex.{exceptionFraction}
 use Rattle.refusal.specs.Table.{numberOf}
 use Rattle.cast.specs.declared.Nodata.the-variants.{Absent}
 use Rattle.color.specs.Word.{wordOf}
@@ -16,6 +17,7 @@ use Rattle.color.specs.Hex.{hexColor}
 use Rattle.lookup.specs.Entries.{plainEntry, laneEntry, entryColor}
 use Rattle.colormap.specs.Positions.{rampColors}
 use Rattle.colormapper.specs.declared.UnmappableColors.{UnmappableColors}
+use Rattle.colormapper.specs.Tolerance.{E}
 use Rattle.colormapper.specs.Unmappable.{unmappable}
 use Rattle.painting.specs.Masked.{maskedColor}
 use Rattle.linear_rule.specs.Rule as linear
@@ -27,6 +29,7 @@ use Rattle.banded.specs.EqualBands.{withEqualBands}
 use Rattle.categoric_keys.specs.Rule as categories
 use Rattle.catgegoric.specs.declared.CategoricNumeric.{CategoricNumeric}
 use Rattle.catgegoric.specs.Made.{forValues}
+use Rattle.claim_examples.specs.Decimals.{whole, decimal}
 
 -- G is the ramp whose entry i is i, i, i, 255
 unfoldable pub gray : ℕ → ℕ
@@ -57,27 +60,23 @@ high = 105
 abbrev pub settings : UnmappableColors
 settings = record { nodata = nodata; low = low; high = high }
 
--- an f32 by its bits
-abbrev pub f32 : ℕ → Float
-f32 bits = ofBits binary32 bits
+abbrev pub band : (start end : Float) (color : ℕ) → LegendBand
+band start end color = record { start = start; end = end; color = color }
 
-abbrev pub band : ℕ → ℕ → ℕ → LegendBand
-band start end color = record { start = f32 start; end = f32 end; color = color }
-
--- what is asked. An f32 is given by its bits, a text by its bytes
+-- what is asked. A text is given by its bytes
 pub data Question : Type 0 where
-  plainRamp laneRamp : (fraction : ℕ) → Question
-  linearOver : (start end value : ℕ) → Question
+  plainRamp laneRamp : (fraction : Float) → Question
+  linearOver : (start end value : Float) → Question
   -- a sample plainly, and lane k of a chunk
-  bandsAt : List LegendBand → (value : ℕ) → Question
-  chunkAt : List LegendBand → (values : List ℕ) (k : ℕ) → Question
+  bandsAt : List LegendBand → (value : Float) → Question
+  chunkAt : List LegendBand → (values : List Float) (k : ℕ) → Question
   -- the colour of band k of `count` equal bands from G
   equalFromRamp : (count k : ℕ) → Question
-  categoryAt : (keys : List ℤ) (colors : List ℕ) (value : ℕ) → Question
+  categoryAt : (keys : List ℤ) (colors : List ℕ) (value : Float) → Question
   categoryCount tableWords : (keys : List ℤ) (colors : List ℕ) → Question
   hexText : List ℕ → Question
   -- a sample of the linear legend 0 to 255 over G, with zero-is-nodata
-  zeroIsNodata : (value : ℕ) → Question
+  zeroIsNodata : (value : Float) → Question
 
 -- the word of a hex colour; a refusal's number is no word of an opaque colour
 abbrev pub hexWordOrNumber : HexColor → ℕ
@@ -88,17 +87,17 @@ unfoldable pub categoryOf : CategoricNumeric → Float → ℕ
 categoryOf m v = categories.plainColor (m .keys) (m .colors) (m .count) (m .lookup) (m .«lookup_count») nodata v
 
 unfoldable pub exampleWord : Question → ℕ
-exampleWord (plainRamp fraction) = entryColor G (plainEntry (f32 fraction))
-exampleWord (laneRamp fraction) = entryColor G (laneEntry (f32 fraction))
-exampleWord (linearOver start end value) = linear.plainColor G (f32 start) (f32 end) settings (f32 value)
-exampleWord (bandsAt bs value) = bands.plainColor bs settings (f32 value)
-exampleWord (chunkAt bs values k) = getD (laneColors bs settings (map f32 values)) k 0
-exampleWord (equalFromRamp count k) = getD (withEqualBands count (f32 0x0000_0000) (f32 0x3F80_0000) (rampColors count G) .banded .bands) k blankBand .color
-exampleWord (categoryAt keys colors value) = categoryOf (forValues keys colors .categoric) (f32 value)
+exampleWord (plainRamp fraction) = entryColor G (plainEntry fraction)
+exampleWord (laneRamp fraction) = entryColor G (laneEntry fraction)
+exampleWord (linearOver start end value) = linear.plainColor G start end settings value
+exampleWord (bandsAt bs value) = bands.plainColor bs settings value
+exampleWord (chunkAt bs values k) = getD (laneColors bs settings values) k 0
+exampleWord (equalFromRamp count k) = getD (withEqualBands count (whole 0) (whole 1) (rampColors count G) .banded .bands) k blankBand .color
+exampleWord (categoryAt keys colors value) = categoryOf (forValues keys colors .categoric) value
 exampleWord (categoryCount keys colors) = forValues keys colors .categoric .count
 exampleWord (tableWords keys colors) = forValues keys colors .categoric .«lookup_count»
 exampleWord (hexText text) = hexWordOrNumber (hexColor text)
-exampleWord (zeroIsNodata value) = maskedColor (unmappable Absent true) nodata (linear.plainColor G (f32 0x0000_0000) (f32 0x437F_0000) settings) (f32 value)
+exampleWord (zeroIsNodata value) = maskedColor (unmappable Absent true) nodata (linear.plainColor G (whole 0) (whole 255) settings) value
 
 pub record Example : Type 0 where
   pub line : ℕ
@@ -109,12 +108,12 @@ abbrev row : ℕ → Question → ℕ → Example
 row line question answer = record { line = line; question = question; answer = answer }
 
 -- bands 0 to 1 (A) and 2 to 3 (B)
-abbrev apart : List LegendBand
-apart = band 0x0000_0000 0x3F80_0000 A ∷ band 0x4000_0000 0x4040_0000 B ∷ []
+abbrev gapped : List LegendBand
+gapped = band (whole 0) (whole 1) A ∷ band (whole 2) (whole 3) B ∷ []
 
 -- bands 0 to 0.00005 (A) and 0.00005 to 1 (B)
 abbrev narrow : List LegendBand
-narrow = band 0x0000_0000 0x3851_B717 A ∷ band 0x3851_B717 0x3F80_0000 B ∷ []
+narrow = band (whole 0) (decimal 5 100_000) A ∷ band (decimal 5 100_000) (whole 1) B ∷ []
 
 -- two keys with the colours A and B
 abbrev two : List ℕ
@@ -123,47 +122,47 @@ two = A ∷ B ∷ []
 unfoldable pub examples : List Example
 examples =
     -- 0.5
-    row 1 (plainRamp 0x3F00_0000) (gray 128)
-    ∷ row 1 (laneRamp 0x3F00_0000) (gray 128)
-    ∷ row 2 (plainRamp 0x3B00_8080) (gray 0)
-    ∷ row 2 (laneRamp 0x3B00_8080) (gray 1)
+    row 1 (plainRamp (decimal 5 10)) (gray 128)
+    ∷ row 1 (laneRamp (decimal 5 10)) (gray 128)
+    ∷ row 2 (plainRamp exceptionFraction) (gray 0)
+    ∷ row 2 (laneRamp exceptionFraction) (gray 1)
     -- 1 and a NaN
-    ∷ row 3 (plainRamp 0x3F80_0000) (gray 255)
-    ∷ row 3 (laneRamp 0x3F80_0000) (gray 255)
-    ∷ row 3 (plainRamp 0x7FC0_0000) TRANSPARENT
-    ∷ row 3 (laneRamp 0x7FC0_0000) TRANSPARENT
+    ∷ row 3 (plainRamp (whole 1)) (gray 255)
+    ∷ row 3 (laneRamp (whole 1)) (gray 255)
+    ∷ row 3 (plainRamp nan) TRANSPARENT
+    ∷ row 3 (laneRamp nan) TRANSPARENT
     -- 0 to 255: -E and -0.0002
-    ∷ row 4 (linearOver 0x0000_0000 0x437F_0000 0xB8D1_B717) (gray 0)
-    ∷ row 4 (linearOver 0x0000_0000 0x437F_0000 0xB951_B717) low
+    ∷ row 4 (linearOver (whole 0) (whole 255) (neg E)) (gray 0)
+    ∷ row 4 (linearOver (whole 0) (whole 255) (neg (decimal 2 10_000))) low
     -- 5 to 5: 5
-    ∷ row 5 (linearOver 0x40A0_0000 0x40A0_0000 0x40A0_0000) (gray 0)
+    ∷ row 5 (linearOver (whole 5) (whole 5) (whole 5)) (gray 0)
     -- 0, 1, 3, 3.5, -0.5
-    ∷ row 6 (bandsAt apart 0x0000_0000) A
-    ∷ row 6 (bandsAt apart 0x3F80_0000) nodata
-    ∷ row 6 (bandsAt apart 0x4040_0000) B
-    ∷ row 6 (bandsAt apart 0x4060_0000) high
-    ∷ row 6 (bandsAt apart 0xBF00_0000) low
+    ∷ row 6 (bandsAt gapped (whole 0)) A
+    ∷ row 6 (bandsAt gapped (whole 1)) nodata
+    ∷ row 6 (bandsAt gapped (whole 3)) B
+    ∷ row 6 (bandsAt gapped (decimal 35 10)) high
+    ∷ row 6 (bandsAt gapped (neg (decimal 5 10))) low
     -- 0.00006: plainly, in a chunk with 7.0, in a chunk wholly inside
-    ∷ row 7 (bandsAt narrow 0x387B_A882) B
-    ∷ row 7 (chunkAt narrow (0x387B_A882 ∷ 0x40E0_0000 ∷ 0x387B_A882 ∷ 0x387B_A882 ∷ []) 0) A
-    ∷ row 7 (chunkAt narrow (0x387B_A882 ∷ 0x3F00_0000 ∷ 0x387B_A882 ∷ 0x387B_A882 ∷ []) 0) B
+    ∷ row 7 (bandsAt narrow (decimal 6 100_000)) B
+    ∷ row 7 (chunkAt narrow ((decimal 6 100_000) ∷ (whole 7) ∷ (decimal 6 100_000) ∷ (decimal 6 100_000) ∷ []) 0) A
+    ∷ row 7 (chunkAt narrow ((decimal 6 100_000) ∷ (decimal 5 10) ∷ (decimal 6 100_000) ∷ (decimal 6 100_000) ∷ []) 0) B
     ∷ row 8 (equalFromRamp 11 10) TRANSPARENT
     -- 3, -0.5, 5.9, 6
-    ∷ row 9 (categoryAt (pos 2 ∷ pos 5 ∷ []) two 0x4040_0000) TRANSPARENT
-    ∷ row 9 (categoryAt (pos 2 ∷ pos 5 ∷ []) two 0xBF00_0000) TRANSPARENT
-    ∷ row 9 (categoryAt (pos 2 ∷ pos 5 ∷ []) two 0x40BC_CCCD) B
-    ∷ row 9 (categoryAt (pos 2 ∷ pos 5 ∷ []) two 0x40C0_0000) nodata
+    ∷ row 9 (categoryAt (pos 2 ∷ pos 5 ∷ []) two (whole 3)) TRANSPARENT
+    ∷ row 9 (categoryAt (pos 2 ∷ pos 5 ∷ []) two (neg (decimal 5 10))) TRANSPARENT
+    ∷ row 9 (categoryAt (pos 2 ∷ pos 5 ∷ []) two (decimal 59 10)) B
+    ∷ row 9 (categoryAt (pos 2 ∷ pos 5 ∷ []) two (whole 6)) nodata
     -- 3, -1.5
-    ∷ row 10 (categoryAt (negsuc 0 ∷ pos 5 ∷ []) two 0x4040_0000) nodata
-    ∷ row 10 (categoryAt (negsuc 0 ∷ pos 5 ∷ []) two 0xBFC0_0000) A
+    ∷ row 10 (categoryAt (negsuc 0 ∷ pos 5 ∷ []) two (whole 3)) nodata
+    ∷ row 10 (categoryAt (negsuc 0 ∷ pos 5 ∷ []) two (neg (decimal 15 10))) A
     -- 7
     ∷ row 11 (categoryCount (pos 7 ∷ pos 7 ∷ []) two) 1
-    ∷ row 11 (categoryAt (pos 7 ∷ pos 7 ∷ []) two 0x40E0_0000) B
+    ∷ row 11 (categoryAt (pos 7 ∷ pos 7 ∷ []) two (whole 7)) B
     ∷ row 11 (tableWords (pos 1 ∷ pos 512 ∷ []) two) 513
     ∷ row 11 (tableWords (pos 1 ∷ pos 513 ∷ []) two) 0
     -- #+F0000, and -0.0
     ∷ row 12 (hexText (35 ∷ 43 ∷ 70 ∷ 48 ∷ 48 ∷ 48 ∷ 48 ∷ [])) (wordOf (record { r = 15; g = 0; b = 0; a = 255 }))
-    ∷ row 12 (zeroIsNodata 0x8000_0000) nodata
+    ∷ row 12 (zeroIsNodata (neg (whole 0))) nodata
     ∷ []
 
 -- each row holds

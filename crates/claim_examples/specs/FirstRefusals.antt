@@ -4,7 +4,6 @@ use mathlib.Core.List.{List, [], _∷_}
 use Prim.Native.Nat.{ℕ}
 use lib.Dec.{eqb}
 use lib.IntN.{ℤ, pos, negsuc}
-use lib.Ieee.{Float, binary32, ofBits}
 use lib.ListN.{replicate}
 use Rattle.refusal.specs.declared.Answer.{Answer}
 use Rattle.refusal.specs.declared.Answer.the-variants.{Done}
@@ -23,21 +22,22 @@ use Rattle.catgegoric.specs.Made.{forValues, forValueRange}
 use Rattle.painting.specs.Contracts.{plainRefusal, laneRefusal}
 use Rattle.legend.specs.Record.{categoricLegend}
 use Rattle.legend_range.specs.ValueRanges.{totalRangeRefusal}
+use Rattle.claim_examples.specs.Decimals.{whole}
 
 abbrev of-hex : HexColor → Answer
 of-hex (Made color) = Done
 of-hex (Refused why) = answer.Refused why
 
--- 0.0 and 1.0
-abbrev zero : Float
-zero = ofBits binary32 0x0000_0000
-
-abbrev one : Float
-one = ofBits binary32 0x3F80_0000
-
 -- ranges that are empty, from 1 to 0
 abbrev empty : ValueRange
-empty = record { start = one; end = zero }
+empty = record { start = whole 1; end = whole 0 }
+
+-- the least and the largest i64
+abbrev least : ℤ
+least = negsuc 9223372036854775807
+
+abbrev most : ℤ
+most = pos 9223372036854775807
 
 -- the least key above those allowed
 abbrev above : ℤ
@@ -60,22 +60,22 @@ rows =
     row 1 (of-hex (hexColor []))
     ∷ row 2 (of-hex (hexColor (120 ∷ 48 ∷ 103 ∷ 48 ∷ 48 ∷ 48 ∷ 48 ∷ [])))
     -- linear from a list: 4 and 7; 5 and 7
-    ∷ row 4 (linearOfList one zero (1 ∷ []) .answer)
-    ∷ row 5 (linearOfList one zero (replicate 257 1) .answer)
+    ∷ row 4 (linearOfList (whole 1) (whole 0) (1 ∷ []) .answer)
+    ∷ row 5 (linearOfList (whole 1) (whole 0) (replicate 257 1) .answer)
     -- equal bands: 7 and 8; 7 and 9; 8 and 9
-    ∷ row 7 (withEqualBands 65 one zero (replicate 65 1) .answer)
-    ∷ row 7 (withEqualBands 2 one zero (1 ∷ []) .answer)
-    ∷ row 8 (withEqualBands 65 zero one (1 ∷ []) .answer)
+    ∷ row 7 (withEqualBands 65 (whole 1) (whole 0) (replicate 65 1) .answer)
+    ∷ row 7 (withEqualBands 2 (whole 1) (whole 0) (1 ∷ []) .answer)
+    ∷ row 8 (withEqualBands 65 (whole 0) (whole 1) (1 ∷ []) .answer)
     -- manual ranges: 8 and 10; 8 and 9; 10 and 9
     ∷ row 8 (withManualRanges (record { ranges = replicate 64 empty; count = 65 }) (replicate 65 1) .answer)
-    ∷ row 8 (withManualRanges (record { ranges = replicate 64 (record { start = zero; end = one }); count = 65 }) (1 ∷ []) .answer)
+    ∷ row 8 (withManualRanges (record { ranges = replicate 64 (record { start = whole 0; end = whole 1 }); count = 65 }) (1 ∷ []) .answer)
     ∷ row 10 (withManualRanges (record { ranges = replicate 64 empty; count = 1 }) [] .answer)
     -- categories by values: 11 and 9; 11 and 17; 9 and 17
     ∷ row 11 (forValues (replicate 257 (pos 1)) (1 ∷ []) .answer)
     ∷ row 11 (forValues (replicate 257 above) (replicate 257 1) .answer)
     ∷ row 9 (forValues (above ∷ []) [] .answer)
     -- categories by range: 12 and 11, 9, 17 at once; 11 and 9; 11 and 17; 9 and 17
-    ∷ row 12 (forValueRange (negsuc 9223372036854775807) (pos 9223372036854775807) (1 ∷ []) .answer)
+    ∷ row 12 (forValueRange least most (1 ∷ []) .answer)
     ∷ row 11 (forValueRange (pos 1) (pos 257) (1 ∷ []) .answer)
     ∷ row 11 (forValueRange (pos 16777000) (pos 16777256) (replicate 257 1) .answer)
     ∷ row 9 (forValueRange above above [] .answer)

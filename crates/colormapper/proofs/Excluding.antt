@@ -10,7 +10,8 @@ use Rattle.floats.specs.RampIndex.{nought}
 use Rattle.floats.proofs.Order.{eq-refl-float}
 use Rattle.cast.specs.declared.Nodata.{Nodata}
 use Rattle.cast.specs.declared.Nodata.the-variants.{Value, Absent}
-use Rattle.colormapper.specs.Unmappable.{isNodata, unmappable, valueOrNan, exclusionsOf, excluded}
+use Rattle.colormapper.specs.Unmappable.{isNodata, unmappable}
+use Rattle.colormapper.specs.forms.Exclusions.{valueOrNan, exclusionsOf, excluded}
 
 same : (x : Float) → T (not (isNan x)) → not (eq x x) ≡ false
 same x n = ap not (is-true (eq x x) (eq-refl-float x n))

@@ -8,7 +8,7 @@ use lib.ListN.{getD}
 use Rattle.lists.specs.Lanes.{LanesOf}
 use Rattle.lists.proofs.LanesOf.{lane-at, lanes-agree}
 use Rattle.colormapper.specs.declared.Exclusions.{Exclusions}
-use Rattle.colormapper.specs.Unmappable.{excluded}
+use Rattle.colormapper.specs.forms.Exclusions.{excluded}
 
 pub masked-lanes : (e : Exclusions) (nodata : ℕ) (rule : Float → ℕ) (v : List Float) (c : List ℕ) {l : ℕ} {d : List ℕ}
     → LanesOf 0 l (λ k. rule (getD v k nan)) c

@@ -9,7 +9,8 @@ ghost use lib.ListN.{getD};
 ghost use Rattle.floats.specs.RampIndex.{nought};
 ghost use Rattle.lists.specs.Lanes.{LanesOf};
 ghost use Rattle.colormapper.specs.Settings.{orElse, unmappableColors, noSettings};
-ghost use Rattle.colormapper.specs.Unmappable.{unmappable, excluded, valueOrNan, exclusionsOf};
+ghost use Rattle.colormapper.specs.Unmappable.{unmappable};
+ghost use Rattle.colormapper.specs.forms.Exclusions.{excluded, valueOrNan, exclusionsOf};
 
 // A colour that may be absent.
 pub enum OptionalColor {

@@ -9,7 +9,8 @@ use lib.Ieee.{Float}
 use lib.ListN.{length}
 use Rattle.cast.specs.declared.Nodata.{Nodata}
 use Rattle.colormapper.specs.declared.MappingConfig.{MappingConfig}
-use Rattle.colormapper.specs.Unmappable.{unmappable, excluded, exclusionsOf}
+use Rattle.colormapper.specs.Unmappable.{unmappable}
+use Rattle.colormapper.specs.forms.Exclusions.{excluded, exclusionsOf}
 use Rattle.colormapper.proofs.Excluding.{excluded-is}
 use Rattle.painting.specs.Masked.{masked, maskedColor}
 use Rattle.linear.specs.declared.Linear.{Linear}

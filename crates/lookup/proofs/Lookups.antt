@@ -10,7 +10,8 @@ use Rattle.floats.specs.RampIndex.{c255, nought, one, halfUp, inUnit, plainInde
 use Rattle.floats.proofs.RampBounds.{plain-is}
 use Rattle.lookup.specs.declared.Entry.{Entry}
 use Rattle.lookup.specs.declared.Entry.the-variants.{At, Outside}
-use Rattle.lookup.specs.Entries.{plainEntry, laneEntry, entryColor, unitOrZero}
+use Rattle.lookup.specs.Entries.{plainEntry, laneEntry, entryColor}
+use Rattle.lookup.specs.forms.UnitOrZero.{unitOrZero}
 
 pub holds : {b : Bool} → b ≡ true → T b
 holds e = subst T (sym e) tt

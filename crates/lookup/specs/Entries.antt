@@ -5,7 +5,7 @@ use mathlib.Core.List.{List}
 use lib.Ieee.{Float}
 use lib.ListN.{getD}
 use Rattle.color.specs.Word.{wordOf, transparent}
-use Rattle.floats.specs.RampIndex.{nought, inUnit, plainIndex, laneIndex}
+use Rattle.floats.specs.RampIndex.{inUnit, plainIndex, laneIndex}
 use Rattle.lookup.specs.declared.Entry.{Entry}
 use Rattle.lookup.specs.declared.Entry.the-variants.{At, Outside}
 
@@ -21,7 +21,3 @@ laneEntry f = cond (inUnit f) (At (laneIndex f)) Outside
 abbrev pub entryColor : List ℕ → Entry → ℕ
 entryColor cmap (At k) = getD cmap k 0
 entryColor cmap Outside = wordOf transparent
-
--- the fraction itself from 0 to 1, else 0: what the code looks up before it decides
-unfoldable pub unitOrZero : Float → Float
-unitOrZero f = cond (inUnit f) f nought

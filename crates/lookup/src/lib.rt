@@ -7,7 +7,8 @@ ghost use lib.Ieee.{nan};
 ghost use lib.ListN.{getD};
 ghost use Rattle.floats.specs.RampIndex.{inUnit, laneIndex};
 ghost use Rattle.lists.specs.Lanes.{LanesOf};
-ghost use Rattle.lookup.specs.Entries.{plainEntry, laneEntry, entryColor, unitOrZero};
+ghost use Rattle.lookup.specs.Entries.{plainEntry, laneEntry, entryColor};
+ghost use Rattle.lookup.specs.forms.UnitOrZero.{unitOrZero};
 
 // What a fraction is looked up as.
 pub enum Entry {

@@ -11,7 +11,8 @@ use Rattle.refusal.specs.declared.Refusal.{Refusal}
 use Rattle.refusal.specs.declared.Answer.{Answer}
 use Rattle.refusal.specs.declared.Answer.the-variants.{Done, Refused}
 use Rattle.refusal.proofs.Outcomes.{when-done, when-refused}
-use Rattle.painting.specs.Painted.{plainPainted, lanePainted, scratchAfter, chunkOver}
+use Rattle.painting.specs.Painted.{plainPainted, lanePainted, scratchAfter}
+use Rattle.painting.specs.forms.ChunkOver.{chunkOver}
 use Rattle.painting.specs.Contracts.{plainRefusal, laneRefusal, Painter, PlainPainting, LanePainting}
 use Rattle.painting.proofs.Lists.{front-mapped}
 

@@ -2,7 +2,7 @@
 -- A legend hands in its two rules: `plain`, the colour of one sample, and `chunk`, the colours of a chunk of samples.
 use mathlib.Core.Bool.{cond}
 use mathlib.Core.List.{List, map, _++_}
-use Prim.Native.Nat.{ℕ, zero, suc, _+_, _*_, _-_, _/_}
+use Prim.Native.Nat.{ℕ, zero, suc, _*_, _-_, _/_}
 use lib.Dec.{ltb}
 use lib.Ieee.{Float}
 use lib.ListN.{length, take, drop}
@@ -26,7 +26,3 @@ lanePainted L chunk plain xs = chunked (length xs / L) L chunk plain xs
 -- scratch after lane painting: the last full chunk's colours, then what it held; all that it held where there is no full chunk
 unfoldable pub scratchAfter : (L : ℕ) (painted before : List ℕ) → List ℕ
 scratchAfter L painted before = cond (ltb (length painted) L) before (take L (drop (length painted / L * L - L) painted) ++ drop L before)
-
--- an output with the colours of the chunk of L samples at i laid over it
-unfoldable pub chunkOver : (chunk : List Float → List ℕ) → List Float → List ℕ → (i L : ℕ) → List ℕ
-chunkOver chunk xs out i L = take i out ++ chunk (take L (drop i xs)) ++ drop (i + L) out

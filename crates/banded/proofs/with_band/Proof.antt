@@ -1,7 +1,7 @@
 -- `with_band` meets its contract. Assumes nothing.
 use borrow.Author.Tests.{lt-ltb, le-ltb}
 use borrow.Author.Needs.{needs}
-use Rattle.banded.specs.Given.{withBand}
+use Rattle.banded.specs.forms.OneByOne.{withBand}
 use Rattle.banded.proofs.with_band.Statement.{statement}
 use Rattle.banded.proofs.with_band.Tie as tie
 

@@ -2,7 +2,7 @@
 use mathlib.Core.Path.{refl}
 use contract.Running.{givenOf, tables, tablesOf}
 use denote.Triple.Table.{entered, cited}
-use Rattle.banded.specs.Given.{withBand}
+use Rattle.banded.specs.forms.OneByOne.{withBand}
 use Rattle.banded.proofs.Fold.{Folds, Steps, folds-meets}
 use Rattle.banded.proofs.with_band.Symbol.{name as #banded·with-band}
 use Rattle.banded.proofs.with_bands.Key.{name as #banded·with-bands}

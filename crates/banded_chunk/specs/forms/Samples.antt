@@ -1,8 +1,9 @@
--- The two rules of a banded legend for painting: one sample plainly, and the lanes of a chunk, unmappable samples included (docs/RULES.md, "Banded"). Definitions only.
+-- A form of the code: the colours of a sample and of a chunk of a banded legend, by what the painter is handed. That these are the legend's rules is
+-- legend_paint/proofs/Same.antt (bands-sample, bands-chunk). Definitions only.
 use Prim.Native.Nat.{ℕ}
 use mathlib.Core.List.{List}
 use lib.Ieee.{Float}
-use Rattle.colormapper.specs.Unmappable.{excluded}
+use Rattle.colormapper.specs.forms.Exclusions.{excluded}
 use Rattle.painting.specs.Masked.{masked, maskedColor}
 use Rattle.banded_columns.specs.declared.LegendBand.{LegendBand}
 use Rattle.banded_rule.specs.PlainRule.{plainColor}

@@ -1,4 +1,5 @@
--- A list of bands that stands in three arrays, of which the first count entries are used. Definitions only.
+-- A form of the code: a list of bands that stands in three arrays, of which the first count entries are used. That the columns of a record are its counted
+-- bands is legend_paint/proofs/Same.antt (bands-sample). Definitions only.
 use Prim.Native.Nat.{ℕ}
 use mathlib.Core.List.{List}
 use lib.Ieee.{Float, nan}

@@ -1,4 +1,4 @@
--- The steps of the plain rule that the code works out by themselves. Definitions only.
+-- A form of the code: the plain rule's bands, then its edges, by their colours. That these are `plainColor` is proofs/Forms.antt (plain-form). Definitions only.
 use Prim.Native.Nat.{ℕ}
 use mathlib.Core.Bool.{cond}
 use mathlib.Core.List.{List, [], _∷_}

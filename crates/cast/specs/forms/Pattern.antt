@@ -1,4 +1,5 @@
--- The bit pattern of an f32: the exponent's field, and the whole part of its size where that field is above 0. Definitions only.
+-- A form of the code: the bit pattern of an f32, by its exponent's field. That the whole part read off it is `truncated` is proofs/Bits.antt (small, middle,
+-- edge, large). Definitions only.
 use Prim.Native.Nat.{ℕ, _+_, _-_, _*_, _/_, _%_, _^_}
 
 abbrev pub field : ℕ → ℕ

@@ -1,4 +1,4 @@
--- What the steps of putting a category into the arrays do. Definitions only.
+-- A form of the code: a category put into arrays, step by step. That the arrays then hold `inserted` is proofs/Putting.antt (holds-put). Definitions only.
 use Prim.Native.Nat.{ℕ, suc, _+_}
 use mathlib.Core.Path.{_≡_}
 use mathlib.Core.Bool.{Bool, cond, _&&_}

@@ -1,9 +1,10 @@
--- The rule of a categoric legend's keys for painting, unmappable samples included (docs/RULES.md, "Categoric"): plainly only. Definitions only.
+-- A form of the code: the colour of a sample by keys, by what the painter is handed. That this is the legend's plain rule is legend_paint/proofs/Same.antt
+-- (key-sample). Definitions only.
 use Prim.Native.Nat.{ℕ}
 use mathlib.Core.List.{List}
 use lib.IntN.{ℤ}
 use lib.Ieee.{Float}
-use Rattle.colormapper.specs.Unmappable.{excluded}
+use Rattle.colormapper.specs.forms.Exclusions.{excluded}
 use Rattle.painting.specs.Masked.{maskedColor}
 use Rattle.categoric_keys.specs.Rule.{keyColor}
 use Rattle.categoric_search.specs.forms.Bisection.{searchColor}

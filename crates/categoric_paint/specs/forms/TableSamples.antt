@@ -1,8 +1,9 @@
--- The rules of a categoric legend's look-up table for painting, unmappable samples included (docs/RULES.md, "Categoric"): plainly and in lanes. Definitions only.
+-- A form of the code: the colours of a sample and of a chunk by a table, by what the painter is handed. That these are the legend's rules is
+-- legend_paint/proofs/Same.antt (table-sample, table-chunk). Definitions only.
 use Prim.Native.Nat.{ℕ}
 use mathlib.Core.List.{List}
 use lib.Ieee.{Float}
-use Rattle.colormapper.specs.Unmappable.{excluded}
+use Rattle.colormapper.specs.forms.Exclusions.{excluded}
 use Rattle.painting.specs.Masked.{masked, maskedColor}
 use Rattle.categoric_table.specs.Rule.{tableColor, laneColors}
 use Rattle.categoric_paint.specs.declared.CategoricPaint.{CategoricPaint}

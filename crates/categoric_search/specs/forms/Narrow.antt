@@ -1,4 +1,4 @@
--- Keys and samples as 32-bit numbers. Definitions only.
+-- A form of the code: keys and samples as 32-bit numbers. That a search among them gives `keyColor` is proofs/Sought.antt (sample-color). Definitions only.
 use Prim.Native.Nat.{ℕ, _≤_, _<_}
 use mathlib.Core.Path.{_≡_}
 use mathlib.Core.Bool.{true, cond}

@@ -1,4 +1,5 @@
--- Keys that a search by halving takes: in order, and near enough to 0 to be narrowed. Definitions only.
+-- A form of the code: the keys that the search takes, ascending and within the builders' range (docs/RULES.md, 17), so that they can be narrowed. For these the
+-- search gives `keyColor` (proofs/Sought.antt, sample-color); others are scanned. Definitions only.
 use Prim.Native.Nat.{ℕ, zero, suc}
 use mathlib.Core.Bool.{Bool, true, _&&_}
 use mathlib.Core.List.{List}

@@ -1,5 +1,5 @@
--- The form in which the code looks a sample up in a table of `size` words: the test of the sample, and the float whose
--- whole part is the place that the code reads whatever the test says. Definitions only.
+-- A form of the code: a sample looked up in a table of `size` words, by the test of the sample and the float whose whole part is the index that the code reads
+-- whatever the test says. That the choice is `tableColor` is proofs/TableTest.antt (chosen). Definitions only.
 use Prim.Native.Nat.{ℕ, zero, suc}
 use mathlib.Core.Bool.{Bool, true, false, cond, _&&_}
 use lib.IntN.{pos}

@@ -1,6 +1,6 @@
 -- `is_unmappable` meets its contract. Assumes nothing.
 use Rattle.colormapper.proofs.Excluding.{excluded-is}
-use Rattle.colormapper.specs.Unmappable.{excluded}
+use Rattle.colormapper.specs.forms.Exclusions.{excluded}
 use mathlib.Core.Path.{ap, _∙_}
 use borrow.Author.Needs.{needs}
 use Rattle.colormapper.proofs.is_unmappable.Statement.{statement}

@@ -1,7 +1,7 @@
 -- `value_or_nan` meets its contract. Assumes nothing.
 use mathlib.Core.Path.{sym, ap}
 use lib.Ieee.{ofBits, div}
-use Rattle.colormapper.specs.Unmappable.{valueOrNan}
+use Rattle.colormapper.specs.forms.Exclusions.{valueOrNan}
 use borrow.Author.Needs.{needs}
 use Rattle.colormapper.proofs.value_or_nan.Statement.{statement}
 use Rattle.colormapper.proofs.value_or_nan.Tie as tie

@@ -1,7 +1,8 @@
--- What the painters of each kind are handed, of a record, its settings and a nodata value. Definitions only.
+-- A form of the code: what the painters of each kind are handed, of a record, its settings and a nodata value. That they then paint by the legend's rules is
+-- proofs/Same.antt. Definitions only.
 use Rattle.cast.specs.declared.Nodata.{Nodata}
 use Rattle.colormapper.specs.declared.MappingConfig.{MappingConfig}
-use Rattle.colormapper.specs.Unmappable.{exclusionsOf}
+use Rattle.colormapper.specs.forms.Exclusions.{exclusionsOf}
 use Rattle.linear.specs.declared.Linear.{Linear}
 use Rattle.linear.specs.Made.{linearColors}
 use Rattle.banded.specs.declared.Banded.{Banded}

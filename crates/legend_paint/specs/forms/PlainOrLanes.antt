@@ -1,4 +1,5 @@
--- Painting plainly and in lanes as one: a lane count of 0 stands for plain painting. Definitions only.
+-- A form of the code: painting plainly and in lanes as one, where a lane count of 0 stands for plain painting. That it is `plainPainted` and `lanePainted` is
+-- proofs/Lanes.antt (painted-plain, painted-lanes). Definitions only.
 use Prim.Native.Nat.{ℕ, zero, suc}
 use mathlib.Core.Bool.{Bool, cond, _||_}
 use mathlib.Core.List.{List}

@@ -1,9 +1,9 @@
--- The two rules of a linear legend for painting, unmappable samples included: one sample plainly and in a lane, and the lanes of a chunk
--- (docs/RULES.md, "Linear"). Definitions only.
+-- A form of the code: the colours of a sample and of a chunk of a linear legend, by what the painter is handed. That these are the legend's rules is
+-- legend_paint/proofs/Same.antt (linear-sample, linear-chunk). Definitions only.
 use Prim.Native.Nat.{ℕ}
 use mathlib.Core.List.{List}
 use lib.Ieee.{Float}
-use Rattle.colormapper.specs.Unmappable.{excluded}
+use Rattle.colormapper.specs.forms.Exclusions.{excluded}
 use Rattle.painting.specs.Masked.{masked, maskedColor}
 use Rattle.linear_rule.specs.Rule.{plainColor, laneColor, laneColors}
 use Rattle.linear_paint.specs.declared.LinearPaint.{LinearPaint}

@@ -8,7 +8,7 @@ use Rattle.lists.proofs.Padding.{Storing, storing-start, storing-turn}
 use Rattle.lists.proofs.LanesOf.{lanes-stored}
 use lib.Ieee.{nan}
 use Rattle.floats.specs.RampIndex.{laneIndex}
-use Rattle.lookup.specs.Entries.{unitOrZero}
+use Rattle.lookup.specs.forms.UnitOrZero.{unitOrZero}
 use Rattle.lookup.proofs.gather.Statement.{statement}
 use Rattle.lookup.proofs.gather.Tie as tie
 

@@ -36,7 +36,8 @@ use denote.Triple.Table.{entered, cited}
 use denote.Triple.Walked.{says, Stays, stay-none-slice, walkOf, goes-none-slice, Walks, ends-at, walked, walk-meets}
 use denote.Exit.{yes}
 use Rattle.banded.specs.Record.{bandedOf, beside}
-use Rattle.banded.specs.Given.{withBand, folded, givenRefusal, withBandsGiven}
+use Rattle.banded.specs.Given.{givenRefusal, withBandsGiven}
+use Rattle.banded.specs.forms.OneByOne.{withBand, folded}
 use Rattle.banded_columns.specs.declared.LegendBand.{LegendBand}
 use Rattle.banded.specs.declared.MadeBanded.{MadeBanded}
 use Rattle.banded.proofs.Rows.{Band, Held, held-makes, held-typed}

@@ -4,7 +4,7 @@ use mathlib.Core.Path.{ap, _∙_}
 use lib.Ieee.{nan}
 use lib.ListN.{take}
 use Rattle.lists.proofs.LanesOf.{lane-at}
-use Rattle.colormapper.specs.Unmappable.{excluded}
+use Rattle.colormapper.specs.forms.Exclusions.{excluded}
 use Rattle.categoric_search.specs.forms.Bisection.{searchColor}
 use Rattle.painting.specs.Masked.{masked}
 use Rattle.painting.proofs.Lists.{lanes-list}

@@ -3,7 +3,7 @@ use lib.Ieee.{eq}
 use mathlib.Core.Bool.{_||_}
 use Rattle.colormapper.proofs.Excluding.{differs}
 use mathlib.Core.Path.{ap}
-use Rattle.colormapper.specs.Unmappable.{excluded}
+use Rattle.colormapper.specs.forms.Exclusions.{excluded}
 use Rattle.colormapper.proofs.Exclusions.excludes.Statement.{statement}
 use Rattle.colormapper.proofs.Exclusions.excludes.Tie as tie
 

@@ -7,7 +7,7 @@ use Rattle.lists.proofs.Padding.{Storing, storing-start, storing-turn}
 use Rattle.lists.proofs.LanesOf.{lanes-stored}
 use mathlib.Core.Bool.{cond}
 use lib.Ieee.{nan}
-use Rattle.colormapper.specs.Unmappable.{excluded}
+use Rattle.colormapper.specs.forms.Exclusions.{excluded}
 use Rattle.colormapper.proofs.Exclusions.masked_simd.Statement.{statement}
 use Rattle.colormapper.proofs.Exclusions.masked_simd.Tie as tie
 
