@@ -48,12 +48,6 @@ module _ {M : Type 1} (𝓤 : URA M) (H : Heap 𝓤) (A : Atoms 𝓤) (W : Given
 abbrev pub Held : RattleType
 Held = B.the-row
 
-abbrev pub held-vals : Banded → List Val
-held-vals = LL.vals B.the-type B′.the-laws
-
-pub held-tells : Tells Held (Is Held) held-vals
-held-tells = LL.tells B.the-type B′.the-laws
-
 module _ {M : Type 1} (𝓤 : URA M) (H : Heap 𝓤) (A : Atoms 𝓤) (W : Given 𝓤 H A) where
   pub held-makes : Makes 𝓤 H A Held (Is Held)
   held-makes = LL.makes B.the-type B′.the-plain 𝓤 H A
@@ -68,5 +62,6 @@ offset-fits room i l = omega (arith, room .1)
 -- ---- the test of a `while`: the turn goes on, or the loop is left
 module _ {M : Type 1} {𝓤 : URA M} {H : Heap 𝓤} {A : Atoms 𝓤} {K : Type 0} {W : Given 𝓤 H A} {Γ : List (Item 𝓤)} {E : Env 𝓤 H} {C : Calls 𝓤 H} {Λ : Loops 𝓤 H} {q : Post 𝓤 H} where
   pub tests : K → {c : Operand} {n : ℕ} {b : Body} {y : Bool} → Opd K W Γ E c (vbool y)
-      → (Holds y → Seq K W Γ (runs C Λ E b q)) → (Holds (not y) → Seq K W Γ (prop (post 𝓤 H q (exits n)))) → Seq K W Γ (runs C Λ E (seq (cond c skip (exit n)) b) q)
+      → (Holds y → Seq K W Γ (runs C Λ E b q)) → (Holds (not y) → Seq K W Γ (prop (post 𝓤 H q (exits n))))
+      → Seq K W Γ (runs C Λ E (seq (cond c skip (exit n)) b) q)
   tests t o held over = first t $ branches t o (λ h. skips t $ record { prf = held h .prf }) (λ h. jumps t $ over h)

@@ -1,4 +1,4 @@
--- The colours of a chunk, masked lane by lane, are the words of the rule that gave the colours: the lane rule or the plain rule, for any lane count. Assumes nothing.
+-- The colours of lanes, masked, are their words by the rule that gave the colours: the lane rule or the plain rule, for any lane count. Assumes nothing.
 use mathlib.Core.Path.{_≡_, ap, _∙_}
 use mathlib.Core.Bool.{cond}
 use mathlib.Core.List.{List}
@@ -12,13 +12,15 @@ use Rattle.lists.specs.Padded.{padded}
 use Rattle.lists.proofs.Padding.{length-padded, padded-front}
 use Rattle.lists.proofs.LanesOf.{lane-at, lanes-length, lanes-padded}
 use Rattle.colormapper.specs.forms.Exclusions.{excluded}
+use Rattle.colormapper.proofs.MaskedLanes.{masked-lanes}
 use Rattle.painting.specs.Masked.{masked}
-use Rattle.painting.proofs.Masking.{lanes-masked, length-masked}
+use Rattle.painting.proofs.Masking.{lanes-masked}
 use Rattle.banded_columns.specs.declared.LegendBand.{LegendBand}
+use Rattle.banded_rule.specs.PlainRule.{plainColor}
 use Rattle.banded_lanes.specs.LaneRule.{laneColors}
 use Rattle.banded_lanes.proofs.LaneLaw.{lane-length}
 use Rattle.banded_chunk.specs.declared.BandedPaint.{BandedPaint}
-use Rattle.banded_chunk.specs.forms.Samples.{laneChunk}
+use Rattle.banded_chunk.specs.forms.Samples.{plainSample, laneChunk}
 
 module _ (l : ℕ) (bands : List LegendBand) (p : BandedPaint) (v : List Float) (m : l ≤ length v) where
   colors-length : length (laneColors bands (p .unmappable) (take l v)) ≡ l
@@ -36,9 +38,9 @@ module _ (l : ℕ) (bands : List LegendBand) (p : BandedPaint) (v : List Float) 
       (lanes-masked e (p .unmappable .nodata) l d v colors (omega (arith, lanes-length masks h)) m n (lane-at masks 0)
       ∙ ap (masked e (p .unmappable .nodata) (take l v)) front)
 
-  -- the words of the chunk again
-  pub chunk-words : {d : List ℕ} → d ≡ padded 0 16 (laneChunk bands p (take l v)) → take l d ≡ laneChunk bands p (take l v)
-  chunk-words e =
-      let cs = laneColors bands (p .unmappable) (take l v) in
-      padded-front 0 16 (laneChunk bands p (take l v)) e
-      (length-masked (excluded (p .exclusions)) (p .unmappable .nodata) (take l v) cs (lane-length bands (p .unmappable) (take l v)) ∙ length-take-le l v m)
+-- the same by the plain rule, lane by lane
+pub plain-masked : (bands : List LegendBand) (p : BandedPaint) (v : List Float) {l : ℕ} {colors d : List ℕ}
+    → LanesOf 0 l (λ k. cond (excluded (p .exclusions) (getD v k nan)) (p .unmappable .nodata) (getD colors k 0)) d
+    → LanesOf 0 l (λ k. plainColor bands (p .unmappable) (getD v k nan)) colors → LanesOf 0 l (λ k. plainSample bands p (getD v k nan)) d
+plain-masked bands p v {colors = colors} masks colored =
+    masked-lanes (p .exclusions) (p .unmappable .nodata) (plainColor bands (p .unmappable)) v colors colored masks

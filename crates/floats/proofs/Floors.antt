@@ -1,19 +1,18 @@
--- `floorOf` and `halfUp` keep the order, and `halfUp` is the floor or the next number. Assumes nothing.
-use mathlib.Core.Path.{_≡_, refl, sym, ap, ap₂, _∙_}
+-- `floorOf` and `halfUp` keep the order. Assumes nothing.
+use mathlib.Core.Path.{_≡_, sym, ap, _∙_}
 use mathlib.Core.Logic.{inl, inr}
-use Prim.Native.Nat.{ℕ, suc, _+_, _-_, _*_, _/_, _%_, _≤_, _<_, zero-le}
-use native.Mathlib.Nat.{le-of-eq, le-of-lt, one-mul, mul-comm, mul-assoc, mul-right-comm, zero-mul, zero-div, div-eq-of-lt, eq-of-mul-eq-mul-right, mul-pos, add-mul, mod-lt, div-add-mod', suc-mul}
+use Prim.Native.Nat.{ℕ, _+_, _-_, _*_, _/_, _≤_, _<_, zero-le}
+use native.Mathlib.Nat.{le-of-eq, le-of-lt, mul-comm, mul-assoc, mul-right-comm, zero-mul, zero-div, div-eq-of-lt, eq-of-mul-eq-mul-right, mul-pos, add-mul}
 use native.Mathlib.Omega.{arith}
-use mathlib.Core.Bool.{true, false, not, _&&_}
-use lib.IntN.{ℤ, negsuc}
+use mathlib.Core.Bool.{true, false, _&&_}
+use lib.IntN.{ℤ}
 use lib.Dec.{T, ltb, eqb, ltb→lt, eqb→eq}
 use lib.Pow.{pow-pos}
-use lib.Ieee.{Float, fin, up, down, le, lt, isNan}
+use lib.Ieee.{Float, fin, up, down, le}
 use lib.Ieee.Fits.{down-pos, and-l, and-r}
 use lib.Ieee.Nearest.{div-mono}
-use lib.Arith.{digits-div}
 use lib.Ieee.Scale.{finite}
-use Rattle.floats.proofs.Order.{or-split, not-le}
+use Rattle.floats.proofs.Order.{or-split}
 use Rattle.floats.specs.RampIndex.{floorOf, halfUp}
 
 -- ---- floors keep the order
@@ -53,58 +52,5 @@ half-mono (fin false m e) (fin true n d) p q h =
     small : (D : ℕ) → 0 < D → 0 * 2 + D < D * 2
     small D h = omega arith
 half-mono (fin false m e) (fin false n d) p q h =
-    div-mono (m * up e * 2 + down e) (down e * 2) (n * up d * 2 + down d) (down d * 2) (mul-pos (down-pos e) (pow-pos 1)) (mul-pos (down-pos d) (pow-pos 1)) (widen (m * up e) (down e) (n * up d) (down d) (le→cross m e n d h))
-
--- ---- the half-up rounding of n / d from its floor t and its remainder r
-module _ (n d t r : ℕ) (D : 0 < d) (e : t * d + r ≡ n) (R : r < d) where
-  two : t * (d * 2) ≡ t * d * 2
-  two = sym (mul-assoc t d 2)
-
-  next : suc t * (d * 2) ≡ t * d * 2 + d * 2
-  next = suc-mul t (d * 2) ∙ ap (λ (z : ℕ). z + d * 2) two
-
-  odd-times : (2 * t + 1) * 1 * d ≡ t * d * 2 + d
-  odd-times = ap (λ (z : ℕ). z * d) (tidy t) ∙ add-mul (t * 2) 1 d ∙ ap₂ (λ (a b : ℕ). a + b) (mul-assoc t 2 d ∙ ap (λ (z : ℕ). t * z) (mul-comm 2 d) ∙ sym (mul-assoc t d 2)) (one-mul d)
-    where
-      tidy : (t : ℕ) → (2 * t + 1) * 1 ≡ t * 2 + 1
-      tidy t = omega arith
-
-  rounds-up : (2 * t + 1) * 1 * d ≤ n * 2 → (n * 2 + d) / (d * 2) ≡ suc t
-  rounds-up h = ap (λ (z : ℕ). z / (d * 2)) is ∙ digits-div (suc t) small
-    where
-      is : n * 2 + d ≡ suc t * (d * 2) + (r * 2 - d)
-      is = omega (arith, next, odd-times)
-
-      small : r * 2 - d < d * 2
-      small = omega arith
-
-  rounds-down : n * 2 < (2 * t + 1) * 1 * d → (n * 2 + d) / (d * 2) ≡ t
-  rounds-down h = ap (λ (z : ℕ). z / (d * 2)) is ∙ digits-div t small
-    where
-      is : n * 2 + d ≡ t * (d * 2) + (r * 2 + d)
-      is = omega (arith, two)
-
-      small : r * 2 + d < d * 2
-      small = omega (arith, odd-times)
-
-lt→cross : (m : ℕ) (e : ℤ) (n : ℕ) (d : ℤ) → T (lt (fin false m e) (fin false n d)) → m * up e * down d < n * up d * down e
-unfolding lt
-lt→cross m e n d h = ltb→lt (m * up e * down d) (n * up d * down e) h
-
-pub up-from : (y : Float) → T (finite y) → T (le (fin false (2 * floorOf y + 1) (negsuc 0)) y) → halfUp y ≡ suc (floorOf y)
-up-from (fin true m e) p h = absurd (none (le→zero 1 (negsuc 0) m e h))
-  where
-    none : 1 * 1 ≡ 0 → ⊥
-    none z = omega arith
-up-from (fin false m e) p h =
-    let n = m * up e in
-    let d = down e in
-    rounds-up n d (n / d) (n % d) (down-pos e) (div-add-mod' n d) (mod-lt n (down-pos e)) (le→cross (2 * (n / d) + 1) (negsuc 0) m e h)
-
-pub down-from : (y : Float) → T (finite y) → T (not (le (fin false (2 * floorOf y + 1) (negsuc 0)) y)) → halfUp y ≡ floorOf y
-unfolding isNan
-down-from (fin true m e) p h = refl
-down-from (fin false m e) p h =
-    let n = m * up e in
-    let d = down e in
-    rounds-down n d (n / d) (n % d) (down-pos e) (div-add-mod' n d) (mod-lt n (down-pos e)) (lt→cross m e (2 * (n / d) + 1) (negsuc 0) (not-le (fin false (2 * (n / d) + 1) (negsuc 0)) (fin false m e) tt tt h))
+    div-mono (m * up e * 2 + down e) (down e * 2) (n * up d * 2 + down d) (down d * 2) (mul-pos (down-pos e) (pow-pos 1)) (mul-pos (down-pos d) (pow-pos 1))
+    (widen (m * up e) (down e) (n * up d) (down d) (le→cross m e n d h))

@@ -5,7 +5,6 @@ pub mod Distance
 pub mod Floors
 pub mod FormatsLaw
 pub mod Fitting
-pub mod Key32
 pub mod Same
 pub mod Neighbours
 pub mod Representable

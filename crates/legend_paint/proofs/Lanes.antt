@@ -3,13 +3,11 @@ use mathlib.Core.Path.{_≡_, refl, sym, ap, ap₂, _∙_}
 use mathlib.Core.Bool.{Bool, true, false, cond, _||_, true≢false}
 use mathlib.Core.List.{List}
 use Prim.Native.Nat.{ℕ, zero, suc}
-use native.Mathlib.Omega.{arith}
 use borrow.Author.Tests.{ne-eqb}
 use lib.Dec.{eqb}
 use lib.Ieee.{Float}
 use Rattle.painting.specs.Painted.{plainPainted, lanePainted}
 use Rattle.painting.specs.Contracts.{Painter, laneCount}
-use Rattle.painting.proofs.Refusals.{lane-sizes}
 use Rattle.legend_paint.specs.forms.PlainOrLanes.{painted, plainOrLanes}
 
 -- ---- 0 lanes, or a lane count
@@ -27,22 +25,22 @@ count-lanes lanes h = go (eqb lanes 0) (laneCount lanes) h
     go true b e = refl
     go false b e = e
 
-pub not-none : (lanes : ℕ) → laneCount lanes ≡ true → lanes ≡ 0 → ⊥
-not-none lanes h e = omega (arith, lane-sizes lanes h .0, e)
-
 -- ---- what is painted
 pub painted-plain : (p : Painter) (lanes : ℕ) (xs : List Float) → lanes ≡ 0 → plainPainted (p .plain) xs ≡ painted p lanes xs
 unfolding painted
 painted-plain p lanes xs e = sym (ap (λ (l : ℕ). painted p l xs) e)
 
-pub painted-lanes : (p : Painter) (lanes : ℕ) (xs : List Float) → (lanes ≡ 0 → ⊥) → cond (p .simd) (lanePainted lanes (p .chunk) (p .plain) xs) (plainPainted (p .plain) xs) ≡ painted p lanes xs
+pub painted-lanes : (p : Painter) (lanes : ℕ) (xs : List Float) → (lanes ≡ 0 → ⊥)
+    → cond (p .simd) (lanePainted lanes (p .chunk) (p .plain) xs) (plainPainted (p .plain) xs) ≡ painted p lanes xs
 unfolding painted
 painted-lanes p zero xs n = absurd (n refl)
 painted-lanes p (suc l) xs n = refl
 
 -- with a rule for lanes, or without one
-pub painted-simd : (p : Painter) (lanes : ℕ) (xs : List Float) → (lanes ≡ 0 → ⊥) → p .simd ≡ true → lanePainted lanes (p .chunk) (p .plain) xs ≡ painted p lanes xs
-painted-simd p lanes xs n e = sym (ap (λ (b : Bool). cond b (lanePainted lanes (p .chunk) (p .plain) xs) (plainPainted (p .plain) xs)) e) ∙ painted-lanes p lanes xs n
+pub painted-simd : (p : Painter) (lanes : ℕ) (xs : List Float) → (lanes ≡ 0 → ⊥) → p .simd ≡ true
+    → lanePainted lanes (p .chunk) (p .plain) xs ≡ painted p lanes xs
+painted-simd p lanes xs n e =
+    sym (ap (λ (b : Bool). cond b (lanePainted lanes (p .chunk) (p .plain) xs) (plainPainted (p .plain) xs)) e) ∙ painted-lanes p lanes xs n
 
 pub painted-without : (p : Painter) (lanes : ℕ) (xs : List Float) → p .simd ≡ false → plainPainted (p .plain) xs ≡ painted p lanes xs
 unfolding painted

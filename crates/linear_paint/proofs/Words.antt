@@ -1,20 +1,22 @@
--- A chunk's words lane by lane are the words of the chunk, for any lane count. Assumes nothing.
-use mathlib.Core.Path.{_≡_, sym, _∙_}
+-- The colours of lanes, masked, are their words by the rule that gave the colours: the plain rule or the lane rule, for any lane count. Assumes nothing.
+use mathlib.Core.Bool.{cond}
 use mathlib.Core.List.{List}
-use Prim.Native.Nat.{ℕ, _≤_}
+use Prim.Native.Nat.{ℕ}
 use lib.Ieee.{Float, nan}
-use lib.ListN.{length, getD, take}
+use lib.ListN.{getD}
 use Rattle.lists.specs.Lanes.{LanesOf}
-use Rattle.lists.proofs.LanesOf.{lane-at}
 use Rattle.colormapper.specs.forms.Exclusions.{excluded}
-use Rattle.painting.proofs.Lists.{lanes-list}
-use Rattle.painting.proofs.Masking.{masked-map}
-use Rattle.linear_rule.specs.Rule.{laneColor}
+use Rattle.colormapper.proofs.MaskedLanes.{masked-lanes}
+use Rattle.linear_rule.specs.Rule.{plainColor, laneColor}
 use Rattle.linear_paint.specs.declared.LinearPaint.{LinearPaint}
-use Rattle.linear_paint.specs.forms.Samples.{laneSample, laneChunk}
+use Rattle.linear_paint.specs.forms.Samples.{plainSample, laneSample}
 
-pub lane-words : (l : ℕ) (cmap : List ℕ) (p : LinearPaint) (v : List Float) (d : List ℕ) → l ≤ length v → l ≤ length d
-    → LanesOf 0 l (λ k. laneSample cmap p (getD v k nan)) d → take l d ≡ laneChunk cmap p (take l v)
-lane-words l cmap p v d h g e =
-    lanes-list nan 0 (laneSample cmap p) l d v g h (lane-at e 0)
-    ∙ sym (masked-map (excluded (p .exclusions)) (p .colors .nodata) (laneColor cmap (p .start) (p .end) (p .colors)) (take l v))
+module _ (cmap : List ℕ) (p : LinearPaint) (v : List Float) {l : ℕ} {c d : List ℕ}
+    (masks : LanesOf 0 l (λ k. cond (excluded (p .exclusions) (getD v k nan)) (p .colors .nodata) (getD c k 0)) d) where
+  pub plain-masked : LanesOf 0 l (λ k. plainColor cmap (p .start) (p .end) (p .colors) (getD v k nan)) c
+      → LanesOf 0 l (λ k. plainSample cmap p (getD v k nan)) d
+  plain-masked colors = masked-lanes (p .exclusions) (p .colors .nodata) (plainColor cmap (p .start) (p .end) (p .colors)) v c colors masks
+
+  pub lane-masked : LanesOf 0 l (λ k. laneColor cmap (p .start) (p .end) (p .colors) (getD v k nan)) c
+      → LanesOf 0 l (λ k. laneSample cmap p (getD v k nan)) d
+  lane-masked colors = masked-lanes (p .exclusions) (p .colors .nodata) (laneColor cmap (p .start) (p .end) (p .colors)) v c colors masks

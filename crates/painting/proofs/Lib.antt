@@ -7,3 +7,4 @@ pub mod Splitting
 pub mod Blocks
 pub mod Chunks
 pub mod Masking
+pub mod LaneChunk

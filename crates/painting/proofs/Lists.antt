@@ -5,12 +5,13 @@ use Prim.Native.Nat.{ℕ, zero, suc, _+_, _≤_, _<_}
 use native.Mathlib.Nat.{le-of-suc-le-suc, not-suc-le-zero, zero-lt-suc, le-antisymm}
 use native.Mathlib.Numerals.{add-one}
 use native.Mathlib.Omega.{arith}
-use lib.ListN.{length, take, drop, getD, set, length-drop, length-set}
+use lib.ListN.{length, take, getD, set, length-set}
 use Rattle.lists.specs.Lanes.{Lanes}
-use lib.Seq.{getD-drop, take-take, paste, paste-zero, paste-suc}
+use lib.Seq.{take-take, paste, paste-zero, paste-suc}
 
 -- all lanes below l, as a list
-pub lanes-list : {A B : Type 0} (y : A) (z : B) (f : A → B) (l : ℕ) (r : List B) (xs : List A) → l ≤ length r → l ≤ length xs → Lanes z l r (λ k. f (getD xs k y)) → take l r ≡ map f (take l xs)
+pub lanes-list : {A B : Type 0} (y : A) (z : B) (f : A → B) (l : ℕ) (r : List B) (xs : List A) → l ≤ length r → l ≤ length xs
+    → Lanes z l r (λ k. f (getD xs k y)) → take l r ≡ map f (take l xs)
 lanes-list y z f zero r xs h g all = refl
 lanes-list y z f (suc l) [] xs h g all = absurd (not-suc-le-zero h)
 lanes-list y z f (suc l) (b ∷ r) [] h g all = absurd (not-suc-le-zero g)
@@ -18,15 +19,6 @@ lanes-list y z f (suc l) (b ∷ r) (x ∷ xs) h g all =
     let e : b ≡ f x = all zero (zero-lt-suc l) in
     let t : take l r ≡ map f (take l xs) = lanes-list y z f l r xs (le-of-suc-le-suc h) (le-of-suc-le-suc g) (λ k q. all (suc k) (omega arith)) in
     cc
-
-map-id : {A : Type 0} (xs : List A) → map (λ (x : A). x) xs ≡ xs
-map-id [] = refl
-map-id (x ∷ xs) = ap (λ t. x ∷ t) (map-id xs)
-
--- lanes that hold a part of a list
-pub lanes-part : {A : Type 0} (z : A) (l : ℕ) (r xs : List A) (base : ℕ) → l ≤ length r → base + l ≤ length xs → Lanes z l r (λ k. getD xs (base + k) z) → take l r ≡ take l (drop base xs)
-lanes-part z l r xs base h g all =
-    lanes-list z z (λ x. x) l r (drop base xs) h (omega (arith, length-drop base xs)) (λ k q. all k q ∙ sym (getD-drop base xs k z)) ∙ map-id (take l (drop base xs))
 
 take-map : {A B : Type 0} (f : A → B) (m : ℕ) (xs : List A) → take m (map f xs) ≡ map f (take m xs)
 take-map f zero xs = refl
@@ -53,7 +45,8 @@ pub copy-start : {d : List ℕ} {at : ℕ} {s : List ℕ} {l : ℕ} → Copied d
 copy-start {d} {at} {s} = record { upto = omega arith; same = refl; is = paste-zero d at s }
 
 -- a turn: the store of s's j-th at at + j
-pub copy-turn : {d : List ℕ} {at : ℕ} {s : List ℕ} {l j : ℕ} {out : List ℕ} {p x : ℕ} → Copied d at s l j out → j < l → at + l ≤ length d → l ≤ length s → p ≡ at + j → x ≡ getD s j 0
+pub copy-turn : {d : List ℕ} {at : ℕ} {s : List ℕ} {l j : ℕ} {out : List ℕ} {p x : ℕ} → Copied d at s l j out → j < l → at + l ≤ length d → l ≤ length s
+    → p ≡ at + j → x ≡ getD s j 0
     → Copied d at s l (j + 1) (set out p x)
 copy-turn {d} {at} {s} {l} {j} {out} {p} {x} c h g k e v =
     let w : out ≡ paste d at s j = c .is in

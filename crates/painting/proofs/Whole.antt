@@ -1,6 +1,6 @@
 -- From what the parts of a painter promise to the two whole contracts. Assumes nothing.
 use mathlib.Core.Path.{_≡_, sym, ap, _∙_}
-use mathlib.Core.Bool.{true, false, cond}
+use mathlib.Core.Bool.{cond}
 use mathlib.Core.List.{List, [], _++_, map, append-nil}
 use Prim.Native.Nat.{ℕ, _+_, _-_, _≤_}
 use native.Mathlib.Omega.{arith}
@@ -26,8 +26,10 @@ chunk-is chunk xs out i l L d v e p q r =
     ∙ ap (λ (n : ℕ). take i out ++ chunk (take n (drop i xs)) ++ drop (i + n) out) (sym e)
 
 -- ---- the rest: the samples from i on, coloured plainly among L lanes
-pub rest-is : (plain : Float → ℕ) (xs : List Float) (out : List ℕ) (i L : ℕ) (d : List ℕ) (v : List Float) {out' : List ℕ} → i ≤ length xs → length xs ≤ i + L → length out ≡ length xs
-    → out' ≡ paste out i d (length xs - i) → take L d ≡ map plain (take L v) → take (length xs - i) v ≡ take (length xs - i) (drop i xs) → out' ≡ take i out ++ map plain (drop i xs)
+pub rest-is : (plain : Float → ℕ) (xs : List Float) (out : List ℕ) (i L : ℕ) (d : List ℕ) (v : List Float) {out' : List ℕ} → i ≤ length xs
+    → length xs ≤ i + L → length out ≡ length xs
+    → out' ≡ paste out i d (length xs - i) → take L d ≡ map plain (take L v) → take (length xs - i) v ≡ take (length xs - i) (drop i xs)
+    → out' ≡ take i out ++ map plain (drop i xs)
 rest-is plain xs out i L d v g h o p q r =
     let m : ℕ = length xs - i in
     let a : take m (drop i xs) ≡ drop i xs = take-all m (drop i xs) (omega (arith, length-drop i xs)) in
@@ -38,7 +40,8 @@ rest-is plain xs out i L d v g h o p q r =
     ∙ append-nil (take i out ++ map plain (drop i xs))
 
 -- none is left
-pub rest-none : (plain : Float → ℕ) (xs : List Float) (out : List ℕ) (i : ℕ) → length xs - i ≡ 0 → length out ≡ length xs → out ≡ take i out ++ map plain (drop i xs)
+pub rest-none : (plain : Float → ℕ) (xs : List Float) (out : List ℕ) (i : ℕ) → length xs - i ≡ 0 → length out ≡ length xs
+    → out ≡ take i out ++ map plain (drop i xs)
 rest-none plain xs out i e o =
     sym
     (ap (λ (ys : List Float). take i out ++ map plain ys) (drop-of-length-le xs {i = i} (omega (arith, e)))
@@ -47,10 +50,12 @@ rest-none plain xs out i e o =
 -- ---- the raster has n samples, and xs are these as f32. Refused, with everything as it was, and done
 module _ (p : Painter) (xs : List Float) (out : List ℕ) {n : ℕ} (m : n ≡ length xs) {a : Answer} where
   pub plain-refused : a ≡ plainRefusal (p .stored) n (length out) → {why : Refusal} → a ≡ Refused why → PlainPainting p xs out a out
-  plain-refused d e = record { answered = d ∙ ap (λ k. plainRefusal (p .stored) k (length out)) m; output = sym (when-refused (plainPainted (p .plain) xs) out e) }
+  plain-refused d e =
+      record { answered = d ∙ ap (λ k. plainRefusal (p .stored) k (length out)) m; output = sym (when-refused (plainPainted (p .plain) xs) out e) }
 
   pub plain-done : a ≡ plainRefusal (p .stored) n (length out) → a ≡ Done → {out' : List ℕ} → out' ≡ plainPainted (p .plain) xs → PlainPainting p xs out a out'
-  plain-done d e w = record { answered = d ∙ ap (λ k. plainRefusal (p .stored) k (length out)) m; output = w ∙ sym (when-done (plainPainted (p .plain) xs) out e) }
+  plain-done d e w =
+      record { answered = d ∙ ap (λ k. plainRefusal (p .stored) k (length out)) m; output = w ∙ sym (when-done (plainPainted (p .plain) xs) out e) }
 
   module _ (L : ℕ) (scratch : List ℕ) (d : a ≡ laneRefusal (p .stored) L (length scratch) n (length out)) where
     abbrev painted : List ℕ
@@ -60,21 +65,9 @@ module _ (p : Painter) (xs : List Float) (out : List ℕ) {n : ℕ} (m : n ≡ l
     asked = d ∙ ap (λ k. laneRefusal (p .stored) L (length scratch) k (length out)) m
 
     pub lane-refused : {why : Refusal} → a ≡ Refused why → LanePainting p L xs out scratch a out scratch
-    lane-refused e = record { answered = asked; output = sym (when-refused painted out e); scratch-after = sym (when-refused (cond (p .simd) (scratchAfter L out scratch) scratch) scratch e) }
-
-    pub lane-done : a ≡ Done → p .simd ≡ true → {out' scratch' : List ℕ} → out' ≡ lanePainted L (p .chunk) (p .plain) xs → scratch' ≡ scratchAfter L out' scratch → LanePainting p L xs out scratch a out' scratch'
-    lane-done e s {out'} w k =
+    lane-refused e =
         record {
           answered = asked;
-          output = w ∙ sym (when-done painted out e ∙ ap (λ b. cond b (lanePainted L (p .chunk) (p .plain) xs) (plainPainted (p .plain) xs)) s);
-          scratch-after = k ∙ sym (when-done (cond (p .simd) (scratchAfter L out' scratch) scratch) scratch e ∙ ap (λ b. cond b (scratchAfter L out' scratch) scratch) s);
-        }
-
-    -- a legend whose lanes have no rule
-    pub lane-plain : a ≡ Done → p .simd ≡ false → {out' : List ℕ} → out' ≡ plainPainted (p .plain) xs → LanePainting p L xs out scratch a out' scratch
-    lane-plain e s {out'} w =
-        record {
-          answered = asked;
-          output = w ∙ sym (when-done painted out e ∙ ap (λ b. cond b (lanePainted L (p .chunk) (p .plain) xs) (plainPainted (p .plain) xs)) s);
-          scratch-after = sym (when-done (cond (p .simd) (scratchAfter L out' scratch) scratch) scratch e ∙ ap (λ b. cond b (scratchAfter L out' scratch) scratch) s);
+          output = sym (when-refused painted out e);
+          scratch-after = sym (when-refused (cond (p .simd) (scratchAfter L out scratch) scratch) scratch e);
         }

@@ -1,16 +1,15 @@
--- A row worked out step by step, and by its kind; and that no difference is found exactly where the row is what we make of it. Assumes nothing.
+-- A row worked out step by step, and by its kind. Assumes nothing.
 use mathlib.Core.List.{List}
-use mathlib.Core.Path.{_≡_, sym, ap, ap₂, subst, _∙_}
+use mathlib.Core.Path.{_≡_, sym, ap, ap₂, _∙_}
 use Prim.Native.Nat.{ℕ, _≤_, _<_}
 use borrow.Author.Tests.{ne-eqb, lt-ltb, le-ltb}
-use lib.ListN.{length, getD}
+use lib.ListN.{getD}
 use Rattle.legend_builders.specs.declared.MadeLegend.{MadeLegend}
 use Rattle.legend_range.specs.declared.TotalRange.{TotalRange}
 use Rattle.legend_range.specs.ValueRanges.{totalValueRange}
 use Rattle.legend_apply.specs.declared.ColorList.{ColorList}
 use Rattle.legend_apply.specs.ColorLists.{colorList}
-use Rattle.replay_rows.specs.Parts.{putAt, firstDifference}
-use Rattle.replay_rows.proofs.Rows.{same-row, row-same}
+use Rattle.replay_rows.specs.Parts.{putAt}
 use Rattle.replay_legends.specs.Asked.{rowLegend}
 use Rattle.replay_calls.specs.Replies.{withAnswer, withRange}
 use Rattle.replay_calls.specs.Records.{withRecord}
@@ -21,15 +20,18 @@ use Rattle.replay_worked.specs.Worked.{legendRow, workedIn, workedRow}
 
 worked-by : (row : List ℕ) → MadeLegend → List ℕ
 worked-by row m =
-    withPaintings (paintingsOf (m .legend) row) (putAt 392 (colorList (m .legend) .colors) (withRecord (m .legend) (withRange (totalValueRange (m .legend)) (withAnswer (m .answer) (asked row)))))
+    withPaintings (paintingsOf (m .legend) row)
+    (putAt 392 (colorList (m .legend) .colors) (withRecord (m .legend) (withRange (totalValueRange (m .legend)) (withAnswer (m .answer) (asked row)))))
 
 pub row-is : (row : List ℕ) {m : MadeLegend} {a0 a1 a2 a3 a4 a5 : List ℕ} {range : TotalRange} {list : ColorList} {p : Paintings}
     → a0 ≡ asked row → a1 ≡ withAnswer (m .answer) a0 → range ≡ totalValueRange (m .legend) → a2 ≡ withRange range a1 → a3 ≡ withRecord (m .legend) a2
-    → list ≡ colorList (m .legend) → a4 ≡ putAt 392 (list .colors) a3 → p ≡ paintingsOf (m .legend) row → a5 ≡ withPaintings p a4 → m ≡ rowLegend row → a5 ≡ legendRow row
+    → list ≡ colorList (m .legend) → a4 ≡ putAt 392 (list .colors) a3 → p ≡ paintingsOf (m .legend) row → a5 ≡ withPaintings p a4 → m ≡ rowLegend row
+    → a5 ≡ legendRow row
 unfolding legendRow worked-by
 row-is row {m} e0 e1 er e2 e3 el e4 ep e5 em =
     e5
-    ∙ ap₂ withPaintings ep (e4 ∙ ap₂ (λ x w. putAt 392 (x .colors) w) el (e3 ∙ ap (withRecord (m .legend)) (e2 ∙ ap₂ (λ r w. withRange r w) er (e1 ∙ ap (withAnswer (m .answer)) e0))))
+    ∙ ap₂ withPaintings ep (e4 ∙ ap₂ (λ x w. putAt 392 (x .colors) w) el
+    (e3 ∙ ap (withRecord (m .legend)) (e2 ∙ ap₂ (λ r w. withRange r w) er (e1 ∙ ap (withAnswer (m .answer)) e0))))
     ∙ ap (worked-by row) em
 
 module _ (row : List ℕ) where
@@ -43,9 +45,3 @@ module _ (row : List ℕ) where
 
     pub no-kind : 12 ≤ kind → workedIn kind row ≡ asked row
     no-kind h = rw (ne-eqb kind 0 a, ne-eqb kind 1 b, ne-eqb kind 2 c, ne-eqb kind 3 d, le-ltb kind 12 h)
-
-  pub no-difference : length row ≡ 1680 → length (workedRow row) ≡ 1680 → firstDifference row (workedRow row) ≡ 1680 → row ≡ workedRow row
-  no-difference l m e = same-row row (workedRow row) l m e
-
-  pub same-as-worked : row ≡ workedRow row → firstDifference row (workedRow row) ≡ 1680
-  same-as-worked e = subst (λ (x : List ℕ). firstDifference row x ≡ 1680) e (row-same row)

@@ -5,19 +5,10 @@ use Rattle.banded_chunk.proofs.MaskedWords.{lane-words}
 use Rattle.banded_chunk.proofs.words16.Statement.{statement}
 use Rattle.banded_chunk.proofs.words16.Tie as tie
 
-scanned-requires : tie.Need-scanned-requires
-scanned-requires c κs = search needs
-
-apply-lane-edges-requires : tie.Need-apply-lane-edges-requires
-apply-lane-edges-requires c κs = search needs
-
-masked-simd-requires : tie.Need-masked-simd-requires
-masked-simd-requires c κs = search needs
-
 returns : tie.Need-returns
 returns c =
     let a = c .before .before .before .args in
     lane-words 16 _ (a .p) (a .v) (search needs) (omega arith) (c .masked-simd .ensures) (c .before .apply-lane-edges .ensures)
 
 pub words16-spec : {M : Type 1} → statement M
-words16-spec = tie.close (tie.spec scanned-requires apply-lane-edges-requires masked-simd-requires returns)
+words16-spec = tie.close (tie.spec (λ c κs. search needs) (λ c κs. search needs) (λ c κs. search needs) returns)

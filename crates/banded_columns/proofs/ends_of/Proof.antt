@@ -20,23 +20,11 @@ abbrev μ-loop : tie.MeasureT-loop
 loop-holds : tie.Need-loop-holds Inv-loop μ-loop
 loop-holds c = filling-start refl
 
-mul-band : tie.Need-mul-band Inv-loop μ-loop
-mul-band c = search needs
-
 array-copy-out-band : tie.Need-array-copy-out-band Inv-loop μ-loop
 array-copy-out-band c = search needs
 
-mul-ends : tie.Need-mul-ends Inv-loop μ-loop
-mul-ends c = search needs
-
 array-write-ends : tie.Need-array-write-ends Inv-loop μ-loop
 array-write-ends c = search needs
-
-add-i : tie.Need-add-i Inv-loop μ-loop
-add-i c = search needs
-
-loop-less : tie.Need-loop-less Inv-loop μ-loop
-loop-less c = search needs
 
 loop-again : tie.Need-loop-again Inv-loop μ-loop
 loop-again c = filling-turn (c .before .before .loop .inv) (omega arith) (search needs) refl
@@ -47,15 +35,5 @@ returns c = unpacked (λ b. b .end) noBand (c .before .before .args .t1) (c .bef
 pub ends-of-spec : {M : Type 1} → statement M
 ends-of-spec =
     tie.close
-    (tie.spec
-    Inv-loop
-    μ-loop
-    loop-holds
-    mul-band
-    array-copy-out-band
-    mul-ends
-    array-write-ends
-    add-i
-    loop-less
-    loop-again
-    returns)
+    (tie.spec Inv-loop μ-loop loop-holds (λ c. search needs) array-copy-out-band (λ c. search needs) array-write-ends (λ c. search needs)
+    (λ c. search needs) loop-again returns)

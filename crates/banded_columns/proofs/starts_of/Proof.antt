@@ -20,23 +20,11 @@ abbrev μ-loop : tie.MeasureT-loop
 loop-holds : tie.Need-loop-holds Inv-loop μ-loop
 loop-holds c = filling-start refl
 
-mul-band : tie.Need-mul-band Inv-loop μ-loop
-mul-band c = search needs
-
 array-copy-out-band : tie.Need-array-copy-out-band Inv-loop μ-loop
 array-copy-out-band c = search needs
 
-mul-starts : tie.Need-mul-starts Inv-loop μ-loop
-mul-starts c = search needs
-
 array-write-starts : tie.Need-array-write-starts Inv-loop μ-loop
 array-write-starts c = search needs
-
-add-i : tie.Need-add-i Inv-loop μ-loop
-add-i c = search needs
-
-loop-less : tie.Need-loop-less Inv-loop μ-loop
-loop-less c = search needs
 
 loop-again : tie.Need-loop-again Inv-loop μ-loop
 loop-again c = filling-turn (c .before .before .loop .inv) (omega arith) (search needs) refl
@@ -47,15 +35,5 @@ returns c = unpacked (λ b. b .start) noBand (c .before .before .args .t1) (c .b
 pub starts-of-spec : {M : Type 1} → statement M
 starts-of-spec =
     tie.close
-    (tie.spec
-    Inv-loop
-    μ-loop
-    loop-holds
-    mul-band
-    array-copy-out-band
-    mul-starts
-    array-write-starts
-    add-i
-    loop-less
-    loop-again
-    returns)
+    (tie.spec Inv-loop μ-loop loop-holds (λ c. search needs) array-copy-out-band (λ c. search needs) array-write-starts (λ c. search needs)
+    (λ c. search needs) loop-again returns)

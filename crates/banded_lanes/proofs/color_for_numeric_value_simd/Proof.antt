@@ -17,55 +17,17 @@ colored c n = let a = c .args in padded 0 16 (laneColors (fromColumns (a .starts
 at : (n : ℕ) (c : tie.Start) {r : List ℕ} → c .args .lanes ≡ n → r ≡ colored c n → r ≡ colored c (c .args .lanes)
 at n c e h = h ∙ sym (ap (colored c) e)
 
-scanned-requires : tie.Need-scanned-requires
-scanned-requires c κs = search needs
-
-apply-lane-edges-requires : tie.Need-apply-lane-edges-requires
-apply-lane-edges-requires c κs = search needs
-
 returns : tie.Need-returns
-returns c = at 4 (c .before .before .before) (c .before .before .if1 .taken) (c .apply-lane-edges .ensures)
-
-scanned-requires-2 : tie.Need-scanned-requires-2
-scanned-requires-2 c κs = search needs
-
-apply-lane-edges-requires-2 : tie.Need-apply-lane-edges-requires-2
-apply-lane-edges-requires-2 c κs = search needs
+returns c = let s = c .before .before in at 4 (s .before) (s .if1 .taken) (c .apply-lane-edges .ensures)
 
 returns-2 : tie.Need-returns-2
-returns-2 c = at 8 (c .before .before .before .before) (c .before .before .if2 .taken) (c .apply-lane-edges2 .ensures)
-
-scanned-requires-3 : tie.Need-scanned-requires-3
-scanned-requires-3 c κs = search needs
-
-apply-lane-edges-requires-3 : tie.Need-apply-lane-edges-requires-3
-apply-lane-edges-requires-3 c κs = search needs
+returns-2 c = let s = c .before .before in at 8 (s .before .before) (s .if2 .taken) (c .apply-lane-edges2 .ensures)
 
 returns-3 : tie.Need-returns-3
-returns-3 c = at 16 (c .before .before .before .before .before) (c .before .before .if3 .taken) (c .apply-lane-edges3 .ensures)
-
-scanned-requires-4 : tie.Need-scanned-requires-4
-scanned-requires-4 c κs = search needs
-
-apply-lane-edges-requires-4 : tie.Need-apply-lane-edges-requires-4
-apply-lane-edges-requires-4 c κs = search needs
-
-returns-4 : tie.Need-returns-4
-returns-4 c = search needs
+returns-3 c = let s = c .before .before in at 16 (s .before .before .before) (s .if3 .taken) (c .apply-lane-edges3 .ensures)
 
 pub color-for-numeric-value-simd-spec : {M : Type 1} → statement M
 color-for-numeric-value-simd-spec =
     tie.close
-    (tie.spec
-    scanned-requires
-    apply-lane-edges-requires
-    returns
-    scanned-requires-2
-    apply-lane-edges-requires-2
-    returns-2
-    scanned-requires-3
-    apply-lane-edges-requires-3
-    returns-3
-    scanned-requires-4
-    apply-lane-edges-requires-4
-    returns-4)
+    (tie.spec (λ c κs. search needs) (λ c κs. search needs) returns (λ c κs. search needs) (λ c κs. search needs) returns-2
+    (λ c κs. search needs) (λ c κs. search needs) returns-3 (λ c κs. search needs) (λ c κs. search needs) (λ c. search needs))

@@ -15,7 +15,10 @@ use Rattle.banded_lanes.proofs.enter.Statement.{statement}
 use Rattle.banded_lanes.proofs.enter.Tie as tie
 
 abbrev Inv-loop : tie.InvT-loop
-Inv-loop lanes band value words₀ inside₀ all₀ i₀ words inside all i = Updating 0 (λ k. cond (holds band (getD value k nan)) (band .color) (getD words₀ k 0)) lanes words₀ i words × Updating false (λ k. getD inside₀ k false || holds band (getD value k nan)) lanes inside₀ i inside × (all ≡ allBelow i (λ k. getD inside₀ k false || holds band (getD value k nan)))
+Inv-loop lanes band value words₀ inside₀ all₀ i₀ words inside all i =
+    Updating 0 (λ k. cond (holds band (getD value k nan)) (band .color) (getD words₀ k 0)) lanes words₀ i words
+    × Updating false (λ k. getD inside₀ k false || holds band (getD value k nan)) lanes inside₀ i inside
+    × (all ≡ allBelow i (λ k. getD inside₀ k false || holds band (getD value k nan)))
 
 abbrev μ-loop : tie.MeasureT-loop
 μ-loop lanes band value words₀ inside₀ all₀ i₀ words inside all i = lanes - i
@@ -24,26 +27,17 @@ loop-holds : tie.Need-loop-holds Inv-loop μ-loop
 unfolding allBelow
 loop-holds c = (updating-start, updating-start, refl)
 
-mul-holds : tie.Need-mul-holds Inv-loop μ-loop
-mul-holds c = search needs
-
 element-copy-out-holds : tie.Need-element-copy-out-holds Inv-loop μ-loop
 element-copy-out-holds c = search needs
 
 holds-requires : tie.Need-holds-requires Inv-loop μ-loop
 holds-requires c κs = search needs
 
-mul-pick : tie.Need-mul-pick Inv-loop μ-loop
-mul-pick c = search needs
-
 element-copy-out-pick : tie.Need-element-copy-out-pick Inv-loop μ-loop
 element-copy-out-pick c = search needs
 
 pick-requires : tie.Need-pick-requires Inv-loop μ-loop
 pick-requires c κs = search needs
-
-mul-words : tie.Need-mul-words Inv-loop μ-loop
-mul-words c = search needs
 
 element-write-words : tie.Need-element-write-words Inv-loop μ-loop
 element-write-words c = search needs
@@ -53,12 +47,6 @@ element-copy-out-entered c = search needs
 
 element-write-inside : tie.Need-element-write-inside Inv-loop μ-loop
 element-write-inside c = search needs
-
-add-i : tie.Need-add-i Inv-loop μ-loop
-add-i c = search needs
-
-loop-less : tie.Need-loop-less Inv-loop μ-loop
-loop-less c = search needs
 
 loop-again : tie.Need-loop-again Inv-loop μ-loop
 loop-again c =
@@ -89,21 +77,6 @@ returns c =
 pub enter-spec : {M : Type 1} → statement M
 enter-spec =
     tie.close
-    (tie.spec
-    Inv-loop
-    μ-loop
-    loop-holds
-    mul-holds
-    element-copy-out-holds
-    holds-requires
-    mul-pick
-    element-copy-out-pick
-    pick-requires
-    mul-words
-    element-write-words
-    element-copy-out-entered
-    element-write-inside
-    add-i
-    loop-less
-    loop-again
-    returns)
+    (tie.spec Inv-loop μ-loop loop-holds (λ c. search needs) element-copy-out-holds holds-requires (λ c. search needs) element-copy-out-pick
+    pick-requires (λ c. search needs) element-write-words element-copy-out-entered element-write-inside (λ c. search needs) (λ c. search needs)
+    loop-again returns)

@@ -17,17 +17,8 @@ abbrev μ-loop : tie.MeasureT-loop
 loop-holds : tie.Need-loop-holds Inv-loop μ-loop
 loop-holds c = storing-start
 
-mul-result : tie.Need-mul-result Inv-loop μ-loop
-mul-result c = search needs
-
 array-write-result : tie.Need-array-write-result Inv-loop μ-loop
 array-write-result c = search needs
-
-add-i : tie.Need-add-i Inv-loop μ-loop
-add-i c = search needs
-
-loop-less : tie.Need-loop-less Inv-loop μ-loop
-loop-less c = search needs
 
 loop-again : tie.Need-loop-again Inv-loop μ-loop
 loop-again c = storing-turn (c .before .loop .inv) (omega arith) (omega arith) refl
@@ -36,4 +27,5 @@ returns : tie.Need-returns Inv-loop μ-loop
 returns c = lanes-stored (c .before .loop .inv) (omega arith)
 
 pub nodata-lanes-spec : {M : Type 1} → statement M
-nodata-lanes-spec = tie.close (tie.spec Inv-loop μ-loop loop-holds mul-result array-write-result add-i loop-less loop-again returns)
+nodata-lanes-spec =
+    tie.close (tie.spec Inv-loop μ-loop loop-holds (λ c. search needs) array-write-result (λ c. search needs) (λ c. search needs) loop-again returns)

@@ -25,30 +25,29 @@ band-at-requires : tie.Need-band-at-requires Inv-loop μ-loop
 band-at-requires c κs = search needs
 
 enter-requires : tie.Need-enter-requires Inv-loop μ-loop
-enter-requires c κs = let l = c .before .before .before .before .before .loop in (omega arith, l .inv .colored, l .inv .insides)
+enter-requires c κs =
+    let s5 = c .before .before .before .before .before in
+    let l = s5 .loop in
+    (omega arith, l .inv .colored, l .inv .insides)
 
 returns : tie.Need-returns Inv-loop μ-loop
 returns c =
-    let s = c .before .before .before .before .before .before .before in
+    let b = c .before .before .before .before .before in
+    let s = b .before .before in
     let a = s .before .before .args in
     let e = c .before .enter in
     scanning-finished (a .starts .now) (a .ends .now) (a .colors .now) (a .count) (a .nodata) (a .lanes) (a .t7) (e .last .1 .1 .1 .1 .0) (e .last .1 .1 .1 .0)
-    (s .loop .inv) (omega arith) (c .before .before .before .before .before .band-at .ensures) (e .ensures .0) (e .ensures .1 .0) (e .ensures .1 .1)
+    (s .loop .inv) (omega arith) (b .band-at .ensures) (e .ensures .0) (e .ensures .1 .0) (e .ensures .1 .1)
     (c .if1 .taken)
-
-add-i : tie.Need-add-i Inv-loop μ-loop
-add-i c = search needs
-
-loop-less : tie.Need-loop-less Inv-loop μ-loop
-loop-less c = search needs
 
 loop-again : tie.Need-loop-again Inv-loop μ-loop
 loop-again c =
-    let s = c .before .before .before .before .before .before .before in
+    let b = c .before .before .before .before .before in
+    let s = b .before .before in
     let a = s .before .before .args in
     let e = c .before .enter in
     scanning-turn (a .starts .now) (a .ends .now) (a .colors .now) (a .count) (a .nodata) (a .lanes) (a .t7) (e .last .1 .1 .1 .1 .0) (e .last .1 .1 .1 .0)
-    (s .loop .inv) (omega arith) (c .before .before .before .before .before .band-at .ensures) (e .ensures .0) (e .ensures .1 .0) (e .ensures .1 .1)
+    (s .loop .inv) (omega arith) (b .band-at .ensures) (e .ensures .0) (e .ensures .1 .0) (e .ensures .1 .1)
     (c .if1 .left)
 
 returns-2 : tie.Need-returns-2 Inv-loop μ-loop
@@ -60,15 +59,5 @@ returns-2 c =
 pub scanned-spec : {M : Type 1} → statement M
 scanned-spec =
     tie.close
-    (tie.spec
-    Inv-loop
-    μ-loop
-    nodata-lanes-requires
-    loop-holds
-    band-at-requires
-    enter-requires
-    returns
-    add-i
-    loop-less
-    loop-again
-    returns-2)
+    (tie.spec Inv-loop μ-loop nodata-lanes-requires loop-holds band-at-requires enter-requires returns (λ c. search needs) (λ c. search needs)
+    loop-again returns-2)

@@ -28,26 +28,14 @@ no-bands-requires c κs = search needs
 loop-holds : tie.Need-loop-holds Inv-loop μ-loop
 loop-holds c = (search needs, laying-start (c .no-bands .ensures))
 
-mul-band-from : tie.Need-mul-band-from Inv-loop μ-loop
-mul-band-from c = search needs
-
 array-read-band-from : tie.Need-array-read-band-from Inv-loop μ-loop
 array-read-band-from c = search needs
 
 band-from-requires : tie.Need-band-from-requires Inv-loop μ-loop
 band-from-requires c κs = search needs
 
-mul-bands : tie.Need-mul-bands Inv-loop μ-loop
-mul-bands c = search needs
-
 array-set-from-bands : tie.Need-array-set-from-bands Inv-loop μ-loop
 array-set-from-bands c = search needs
-
-add-i : tie.Need-add-i Inv-loop μ-loop
-add-i c = search needs
-
-loop-less : tie.Need-loop-less Inv-loop μ-loop
-loop-less c = search needs
 
 loop-again : tie.Need-loop-again Inv-loop μ-loop
 loop-again c = (search needs, laying-turn (c .before .before .loop .inv .1) (omega arith) (search needs) (c .band-from .ensures))
@@ -59,18 +47,5 @@ returns c = storing-end (c .before .loop .inv .1 .stored) (omega arith)
 pub equal-bands-spec : {M : Type 1} → statement M
 equal-bands-spec =
     tie.close
-    (tie.spec
-    Inv-loop
-    μ-loop
-    int-to-float-step
-    no-bands-requires
-    loop-holds
-    mul-band-from
-    array-read-band-from
-    band-from-requires
-    mul-bands
-    array-set-from-bands
-    add-i
-    loop-less
-    loop-again
-    returns)
+    (tie.spec Inv-loop μ-loop int-to-float-step no-bands-requires loop-holds (λ c. search needs) array-read-band-from band-from-requires
+    (λ c. search needs) array-set-from-bands (λ c. search needs) (λ c. search needs) loop-again returns)

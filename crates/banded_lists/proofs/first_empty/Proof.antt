@@ -21,38 +21,25 @@ abbrev μ-loop : tie.MeasureT-loop
 loop-holds : tie.Need-loop-holds Inv-loop μ-loop
 loop-holds c = (search needs, below-none _)
 
-mul-range : tie.Need-mul-range Inv-loop μ-loop
-mul-range c = search needs
-
 array-copy-out-range : tie.Need-array-copy-out-range Inv-loop μ-loop
 array-copy-out-range c = search needs
 
 returns : tie.Need-returns Inv-loop μ-loop
-returns c = sym (first-found noRange (c .before .before .before .before .before .args .count) (c .before .before .before .before .before .args .t1) (c .before .before .before .before .loop .i) (c .before .before .before .before .loop .inv .1) (omega arith) (search needs) (c .if1 .taken))
-
-add-i : tie.Need-add-i Inv-loop μ-loop
-add-i c = search needs
-
-loop-less : tie.Need-loop-less Inv-loop μ-loop
-loop-less c = search needs
+returns c =
+    let s4 = c .before .before .before .before in
+    let s5 = s4 .before in
+    sym (first-found noRange (s5 .args .count) (s5 .args .t1) (s4 .loop .i) (s4 .loop .inv .1) (omega arith) (search needs) (c .if1 .taken))
 
 loop-again : tie.Need-loop-again Inv-loop μ-loop
 loop-again c = (search needs, below-more _ _ (c .before .before .before .before .loop .inv .1) (c .if1 .left))
 
 returns-2 : tie.Need-returns-2 Inv-loop μ-loop
-returns-2 c = first-none noRange (c .before .before .args .count) (c .before .before .args .t1) (c .before .loop .i) (c .before .loop .inv .1) (omega arith) (search needs)
+returns-2 c =
+    first-none noRange (c .before .before .args .count) (c .before .before .args .t1) (c .before .loop .i) (c .before .loop .inv .1) (omega arith)
+    (search needs)
 
 pub first-empty-spec : {M : Type 1} → statement M
 first-empty-spec =
     tie.close
-    (tie.spec
-    Inv-loop
-    μ-loop
-    loop-holds
-    mul-range
-    array-copy-out-range
-    returns
-    add-i
-    loop-less
-    loop-again
+    (tie.spec Inv-loop μ-loop loop-holds (λ c. search needs) array-copy-out-range returns (λ c. search needs) (λ c. search needs) loop-again
     returns-2)

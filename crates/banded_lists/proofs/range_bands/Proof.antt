@@ -14,7 +14,8 @@ use Rattle.banded_lists.proofs.range_bands.Statement.{statement}
 use Rattle.banded_lists.proofs.range_bands.Tie as tie
 
 abbrev Inv-loop : tie.InvT-loop
-Inv-loop count ranges colors bands₀ i₀ bands i = (length bands ≡ 64) × Storing blankBand (λ k. bandOf (getD ranges k noRange) (getD colors k 0)) 64 count i bands
+Inv-loop count ranges colors bands₀ i₀ bands i =
+    (length bands ≡ 64) × Storing blankBand (λ k. bandOf (getD ranges k noRange) (getD colors k 0)) 64 count i bands
 
 abbrev μ-loop : tie.MeasureT-loop
 μ-loop count ranges colors bands₀ i₀ bands i = count - i
@@ -25,14 +26,8 @@ no-bands-requires c κs = search needs
 loop-holds : tie.Need-loop-holds Inv-loop μ-loop
 loop-holds c = (search needs, no-bands-stored (c .no-bands .ensures))
 
-mul-band-of : tie.Need-mul-band-of Inv-loop μ-loop
-mul-band-of c = search needs
-
 array-copy-out-band-of : tie.Need-array-copy-out-band-of Inv-loop μ-loop
 array-copy-out-band-of c = search needs
-
-mul-band-of-2 : tie.Need-mul-band-of-2 Inv-loop μ-loop
-mul-band-of-2 c = search needs
 
 array-read-band-of : tie.Need-array-read-band-of Inv-loop μ-loop
 array-read-band-of c = search needs
@@ -40,17 +35,8 @@ array-read-band-of c = search needs
 band-of-requires : tie.Need-band-of-requires Inv-loop μ-loop
 band-of-requires c κs = search needs
 
-mul-bands : tie.Need-mul-bands Inv-loop μ-loop
-mul-bands c = search needs
-
 array-set-from-bands : tie.Need-array-set-from-bands Inv-loop μ-loop
 array-set-from-bands c = search needs
-
-add-i : tie.Need-add-i Inv-loop μ-loop
-add-i c = search needs
-
-loop-less : tie.Need-loop-less Inv-loop μ-loop
-loop-less c = search needs
 
 loop-again : tie.Need-loop-again Inv-loop μ-loop
 loop-again c = (search needs, storing-turn (c .before .before .before .loop .inv .1) (omega arith) (search needs) (c .band-of .ensures))
@@ -60,25 +46,13 @@ returns c =
     let a = c .before .before .before .args in
     let g : length (a .t1) ≡ 64 = search needs in
     let f : length (a .t3) ≡ 256 = search needs in
-    let n : length (take (a .count) (a .t1)) ≡ a .count = omega (arith, length-take (a .count) (a .t1)) in
-    (storing-end (c .before .loop .inv .1) (omega arith) ∙ ap paddedBands (range-bands noRange (a .count) (a .t1) (a .t3) (omega arith) (omega arith)), range-length (take (a .count) (a .t1)) (a .t3) (omega arith) ∙ n)
+    let n : length (take (a .count) (a .t1)) ≡ a .count = omega (arith, length-take (a .count) (a .t1)) in (
+      storing-end (c .before .loop .inv .1) (omega arith) ∙ ap paddedBands (range-bands noRange (a .count) (a .t1) (a .t3) (omega arith) (omega arith)),
+      range-length (take (a .count) (a .t1)) (a .t3) (omega arith) ∙ n,
+    )
 
 pub range-bands-spec : {M : Type 1} → statement M
 range-bands-spec =
     tie.close
-    (tie.spec
-    Inv-loop
-    μ-loop
-    no-bands-requires
-    loop-holds
-    mul-band-of
-    array-copy-out-band-of
-    mul-band-of-2
-    array-read-band-of
-    band-of-requires
-    mul-bands
-    array-set-from-bands
-    add-i
-    loop-less
-    loop-again
-    returns)
+    (tie.spec Inv-loop μ-loop no-bands-requires loop-holds (λ c. search needs) array-copy-out-band-of (λ c. search needs) array-read-band-of
+    band-of-requires (λ c. search needs) array-set-from-bands (λ c. search needs) (λ c. search needs) loop-again returns)

@@ -13,7 +13,8 @@ use Rattle.banded_paint.proofs.paint.Statement.{statement}
 use Rattle.banded_paint.proofs.paint.Tie as tie
 
 abbrev Inv-loop : tie.InvT-loop
-Inv-loop starts ends colors p src out₀ searched n base₀ out base = InChunks 16 (map (plainSample (fromColumns starts ends colors (p .count)) p)) (plainSample (fromColumns starts ends colors (p .count)) p) src base out
+Inv-loop starts ends colors p src out₀ searched n base₀ out base =
+    InChunks 16 (map (plainSample (fromColumns starts ends colors (p .count)) p)) (plainSample (fromColumns starts ends colors (p .count)) p) src base out
 
 abbrev μ-loop : tie.MeasureT-loop
 μ-loop starts ends colors p src out₀ searched n base₀ out base = n - base
@@ -30,14 +31,10 @@ sub-loop c = search needs
 block-requires : tie.Need-block-requires Inv-loop μ-loop
 block-requires c κs = (search needs, λ h. sym (c .before .before .before .ascending-disjoint .ensures _) ∙ h, omega arith, omega arith)
 
-add-base : tie.Need-add-base Inv-loop μ-loop
-add-base c = search needs
-
-loop-less : tie.Need-loop-less Inv-loop μ-loop
-loop-less c = search needs
-
 loop-again : tie.Need-loop-again Inv-loop μ-loop
-loop-again c = chunk-turn (c .before .before .before .before .before .loop .inv) (omega arith) (omega arith) (λ xs. length-map xs _) (c .before .before .block .ensures)
+loop-again c =
+    let s5 = c .before .before .before .before .before in
+    chunk-turn (s5 .loop .inv) (omega arith) (omega arith) (λ xs. length-map xs _) (c .before .before .block .ensures)
 
 rest-requires : tie.Need-rest-requires Inv-loop μ-loop
 rest-requires c κs = (search needs, λ h. sym (c .before .before .before .ascending-disjoint .ensures _) ∙ h, search needs, omega arith, search needs)
@@ -46,21 +43,12 @@ same-length : tie.Need-same-length Inv-loop μ-loop
 same-length c = search needs
 
 returns : tie.Need-returns Inv-loop μ-loop
-returns c = c .before .before .rest .ensures ∙ chunks-end (c .before .before .before .before .before .loop .inv) (omega arith) ∙ plain-in-blocks 16 _ _
+returns c =
+    let s5 = c .before .before .before .before .before in
+    c .before .before .rest .ensures ∙ chunks-end (s5 .loop .inv) (omega arith) ∙ plain-in-blocks 16 _ _
 
 pub paint-spec : {M : Type 1} → statement M
 paint-spec =
     tie.close
-    (tie.spec
-    Inv-loop
-    μ-loop
-    ascending-disjoint-requires
-    loop-holds
-    sub-loop
-    block-requires
-    add-base
-    loop-less
-    loop-again
-    rest-requires
-    same-length
-    returns)
+    (tie.spec Inv-loop μ-loop ascending-disjoint-requires loop-holds sub-loop block-requires (λ c. search needs) (λ c. search needs) loop-again rest-requires
+    same-length returns)

@@ -27,7 +27,8 @@ both-asked {count = count} {asked = true} e h = record { some = ltb-true 0 count
 both-asked {asked = false} e h = absurd (subst T (sym h) tt)
 
 abbrev Inv-loop : tie.InvT-loop
-Inv-loop starts ends colors p l src out₀ searched n base₀ out base = InChunks l (laneChunk (fromColumns starts ends colors (p .count)) p) (plainSample (fromColumns starts ends colors (p .count)) p) src base out
+Inv-loop starts ends colors p l src out₀ searched n base₀ out base =
+    InChunks l (laneChunk (fromColumns starts ends colors (p .count)) p) (plainSample (fromColumns starts ends colors (p .count)) p) src base out
 
 abbrev μ-loop : tie.MeasureT-loop
 μ-loop starts ends colors p l src out₀ searched n base₀ out base = n - base
@@ -43,21 +44,26 @@ sub-loop c = search needs
 
 chunk-searched-requires : tie.Need-chunk-searched-requires Inv-loop μ-loop
 chunk-searched-requires c κs =
-    let s = c .before .before .before .before .before .before .before .before in
-    (search needs, both-asked (c .before .before .before .before .before .ascending-disjoint .ensures _) (c .before .if1 .taken), s .pre .1, omega arith, omega arith)
+    let b = c .before .before .before .before .before in
+    let s = b .before .before .before in
+    (search needs, both-asked (b .ascending-disjoint .ensures _) (c .before .if1 .taken), s .pre .1, omega arith, omega arith)
 
 chunk-requires : tie.Need-chunk-requires Inv-loop μ-loop
-chunk-requires c κs = (search needs, c .before .before .before .before .before .before .before .before .pre .1, omega arith, omega arith)
-
-add-base : tie.Need-add-base Inv-loop μ-loop
-add-base c = search needs
+chunk-requires c κs =
+    let s8 = c .before .before .before .before .before .before .before .before in
+    (search needs, s8 .pre .1, omega arith, omega arith)
 
 loop-less : tie.Need-loop-less Inv-loop μ-loop
-loop-less c = omega (arith, lane-sizes (c .before .before .before .before .before .before .before .args .l) (c .before .before .before .before .before .before .before .pre .1) .0)
+loop-less c =
+    let s7 = c .before .before .before .before .before .before .before in
+    omega (arith, lane-sizes (s7 .args .l) (s7 .pre .1) .0)
 
 loop-again : tie.Need-loop-again Inv-loop μ-loop
 loop-again c =
-    chunk-turn (c .before .before .loop .inv) (lane-sizes _ (c .before .before .before .before .before .before .before .pre .1) .0) (omega arith) (λ xs. length-masked _ _ xs _ (lane-length _ _ xs))
+    let l = c .before .before in
+    let s = l .before .before .before .before .before in
+    chunk-turn (l .loop .inv) (lane-sizes _ (s .pre .1) .0) (omega arith)
+    (λ xs. length-masked _ _ xs _ (lane-length _ _ xs))
     (⊎-elim (λ w. w .5 ∙ w .2 .ensures) (λ w. w .5 ∙ w .2 .ensures) (c .if1 .came))
 
 rest-requires : tie.Need-rest-requires Inv-loop μ-loop
@@ -75,22 +81,12 @@ same-length : tie.Need-same-length Inv-loop μ-loop
 same-length c = search needs
 
 returns : tie.Need-returns Inv-loop μ-loop
-returns c = c .before .before .rest .ensures ∙ chunks-end (c .before .before .before .before .before .loop .inv) (omega arith)
+returns c =
+    let s5 = c .before .before .before .before .before in
+    c .before .before .rest .ensures ∙ chunks-end (s5 .loop .inv) (omega arith)
 
 pub paint-simd-spec : {M : Type 1} → statement M
 paint-simd-spec =
     tie.close
-    (tie.spec
-    Inv-loop
-    μ-loop
-    ascending-disjoint-requires
-    loop-holds
-    sub-loop
-    chunk-searched-requires
-    chunk-requires
-    add-base
-    loop-less
-    loop-again
-    rest-requires
-    same-length
-    returns)
+    (tie.spec Inv-loop μ-loop ascending-disjoint-requires loop-holds sub-loop chunk-searched-requires chunk-requires (λ c. search needs) loop-less loop-again
+    rest-requires same-length returns)

@@ -12,34 +12,21 @@ use Rattle.banded_rule.proofs.colors_for_numeric_values.Statement.{stat
 use Rattle.banded_rule.proofs.colors_for_numeric_values.Tie as tie
 
 returns : tie.Need-returns
-returns c = let a = c .before .args in λ k q. getD-replicate 16 k (a .u .nodata) 0 q ∙ sym (plain-none (a .starts .now) (a .ends .now) (a .colors .now) (a .count) (a .u) (getD (a .value) k nan) (c .if1 .taken))
-
-band-at-requires : tie.Need-band-at-requires
-band-at-requires c κs = search needs
-
-sub-band-at : tie.Need-sub-band-at
-sub-band-at c = search needs
-
-band-at-requires-2 : tie.Need-band-at-requires-2
-band-at-requires-2 c κs = search needs
-
-edge-colors-requires : tie.Need-edge-colors-requires
-edge-colors-requires c κs = search needs
-
-first-colors-requires : tie.Need-first-colors-requires
-first-colors-requires c κs = search needs
+returns c =
+    let a = c .before .args in
+    λ k q. getD-replicate 16 k (a .u .nodata) 0 q
+    ∙ sym (plain-none (a .starts .now) (a .ends .now) (a .colors .now) (a .count) (a .u) (getD (a .value) k nan) (c .if1 .taken))
 
 returns-2 : tie.Need-returns-2
-returns-2 c = let a = c .before .before .before .before .before .args in λ k q. c .first-colors .ensures k q ∙ ap (firstColor (fromColumns (a .starts .now) (a .ends .now) (a .colors .now) (a .count)) (getD (a .value) k nan)) (c .before .edge-colors .ensures k q ∙ ap₂ (λ (x y : LegendBand). edgeColor x y (a .u) (getD (a .value) k nan)) (c .before .before .before .band-at .ensures) (c .before .before .band-at2 .ensures)) ∙ sym (plain-packed (a .starts .now) (a .ends .now) (a .colors .now) (a .count) (a .u) (getD (a .value) k nan) (omega arith))
+returns-2 c =
+    let s5 = c .before .before .before .before .before in
+    let a = s5 .args in
+    λ k q. c .first-colors .ensures k q ∙ ap (firstColor (fromColumns (a .starts .now) (a .ends .now) (a .colors .now) (a .count)) (getD (a .value) k nan))
+    (c .before .edge-colors .ensures k q ∙ ap₂ (λ (x y : LegendBand). edgeColor x y (a .u) (getD (a .value) k nan))
+    (c .before .before .before .band-at .ensures) (c .before .before .band-at2 .ensures))
+    ∙ sym (plain-packed (a .starts .now) (a .ends .now) (a .colors .now) (a .count) (a .u) (getD (a .value) k nan) (omega arith))
 
 pub colors-for-numeric-values-spec : {M : Type 1} → statement M
 colors-for-numeric-values-spec =
     tie.close
-    (tie.spec
-    returns
-    band-at-requires
-    sub-band-at
-    band-at-requires-2
-    edge-colors-requires
-    first-colors-requires
-    returns-2)
+    (tie.spec returns (λ c κs. search needs) (λ c. search needs) (λ c κs. search needs) (λ c κs. search needs) (λ c κs. search needs) returns-2)

@@ -18,26 +18,14 @@ abbrev μ-loop : tie.MeasureT-loop
 loop-holds : tie.Need-loop-holds Inv-loop μ-loop
 loop-holds c = filling-start (search needs)
 
-mul-edge-color : tie.Need-mul-edge-color Inv-loop μ-loop
-mul-edge-color c = search needs
-
 array-read-edge-color : tie.Need-array-read-edge-color Inv-loop μ-loop
 array-read-edge-color c = search needs
 
 edge-color-requires : tie.Need-edge-color-requires Inv-loop μ-loop
 edge-color-requires c κs = search needs
 
-mul-result : tie.Need-mul-result Inv-loop μ-loop
-mul-result c = search needs
-
 array-write-result : tie.Need-array-write-result Inv-loop μ-loop
 array-write-result c = search needs
-
-add-i : tie.Need-add-i Inv-loop μ-loop
-add-i c = search needs
-
-loop-less : tie.Need-loop-less Inv-loop μ-loop
-loop-less c = search needs
 
 loop-again : tie.Need-loop-again Inv-loop μ-loop
 loop-again c = filling-turn (c .before .before .loop .inv) (omega arith) (omega arith) (c .edge-color .ensures)
@@ -48,16 +36,5 @@ returns c = filling-end (c .before .loop .inv) (omega arith)
 pub edge-colors-spec : {M : Type 1} → statement M
 edge-colors-spec =
     tie.close
-    (tie.spec
-    Inv-loop
-    μ-loop
-    loop-holds
-    mul-edge-color
-    array-read-edge-color
-    edge-color-requires
-    mul-result
-    array-write-result
-    add-i
-    loop-less
-    loop-again
-    returns)
+    (tie.spec Inv-loop μ-loop loop-holds (λ c. search needs) array-read-edge-color edge-color-requires (λ c. search needs) array-write-result
+    (λ c. search needs) (λ c. search needs) loop-again returns)

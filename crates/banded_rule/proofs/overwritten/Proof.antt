@@ -20,17 +20,11 @@ abbrev μ-loop : tie.MeasureT-loop
 loop-holds : tie.Need-loop-holds Inv-loop μ-loop
 loop-holds c = filling-start (search needs)
 
-mul-holds : tie.Need-mul-holds Inv-loop μ-loop
-mul-holds c = search needs
-
 array-read-holds : tie.Need-array-read-holds Inv-loop μ-loop
 array-read-holds c = search needs
 
 holds-requires : tie.Need-holds-requires Inv-loop μ-loop
 holds-requires c κs = search needs
-
-mul-pick : tie.Need-mul-pick Inv-loop μ-loop
-mul-pick c = search needs
 
 array-read-pick : tie.Need-array-read-pick Inv-loop μ-loop
 array-read-pick c = search needs
@@ -38,20 +32,14 @@ array-read-pick c = search needs
 pick-requires : tie.Need-pick-requires Inv-loop μ-loop
 pick-requires c κs = search needs
 
-mul-result : tie.Need-mul-result Inv-loop μ-loop
-mul-result c = search needs
-
 array-write-result : tie.Need-array-write-result Inv-loop μ-loop
 array-write-result c = search needs
 
-add-i : tie.Need-add-i Inv-loop μ-loop
-add-i c = search needs
-
-loop-less : tie.Need-loop-less Inv-loop μ-loop
-loop-less c = search needs
-
 loop-again : tie.Need-loop-again Inv-loop μ-loop
-loop-again c = filling-turn (c .before .before .before .loop .inv) (omega arith) (omega arith) (c .pick .ensures ∙ ap (λ (t : Bool). cond t (c .before .before .before .before .args .band .color) (getD (c .before .before .before .before .args .t3) (c .before .before .before .loop .i) 0)) (c .before .holds .ensures))
+loop-again c =
+    filling-turn (c .before .before .before .loop .inv) (omega arith) (omega arith)
+    (c .pick .ensures ∙ ap (λ (t : Bool). cond t (c .before .before .before .before .args .band .color)
+    (getD (c .before .before .before .before .args .t3) (c .before .before .before .loop .i) 0)) (c .before .holds .ensures))
 
 returns : tie.Need-returns Inv-loop μ-loop
 returns c = filling-end (c .before .loop .inv) (omega arith)
@@ -59,19 +47,5 @@ returns c = filling-end (c .before .loop .inv) (omega arith)
 pub overwritten-spec : {M : Type 1} → statement M
 overwritten-spec =
     tie.close
-    (tie.spec
-    Inv-loop
-    μ-loop
-    loop-holds
-    mul-holds
-    array-read-holds
-    holds-requires
-    mul-pick
-    array-read-pick
-    pick-requires
-    mul-result
-    array-write-result
-    add-i
-    loop-less
-    loop-again
-    returns)
+    (tie.spec Inv-loop μ-loop loop-holds (λ c. search needs) array-read-holds holds-requires (λ c. search needs) array-read-pick pick-requires
+    (λ c. search needs) array-write-result (λ c. search needs) (λ c. search needs) loop-again returns)

@@ -23,9 +23,6 @@ loop-holds : tie.Need-loop-holds Inv-loop μ-loop
 unfolding allBelow
 loop-holds c = (omega arith, refl)
 
-mul-place : tie.Need-mul-place Inv-loop μ-loop
-mul-place c = search needs
-
 array-read-place : tie.Need-array-read-place Inv-loop μ-loop
 array-read-place c = search needs
 
@@ -38,14 +35,8 @@ mul-all c = omega (arith, c .before .before .pre .1 (c .before .loop .i) (omega 
 element-copy-out-all : tie.Need-element-copy-out-all Inv-loop μ-loop
 element-copy-out-all c = omega (arith, c .before .before .pre .1 (c .before .loop .i) (omega arith))
 
-mul-all-2 : tie.Need-mul-all-2 Inv-loop μ-loop
-mul-all-2 c = search needs
-
 array-read-all : tie.Need-array-read-all Inv-loop μ-loop
 array-read-all c = search needs
-
-mul-all-3 : tie.Need-mul-all-3 Inv-loop μ-loop
-mul-all-3 c = search needs
 
 array-read-all-2 : tie.Need-array-read-all-2 Inv-loop μ-loop
 array-read-all-2 c = search needs
@@ -55,12 +46,6 @@ mul-all-4 c = omega (arith, c .before .before .before .pre .1 (c .before .before
 
 element-copy-out-all-2 : tie.Need-element-copy-out-all-2 Inv-loop μ-loop
 element-copy-out-all-2 c = omega (arith, c .before .before .before .pre .1 (c .before .before .loop .i) (omega arith))
-
-add-i : tie.Need-add-i Inv-loop μ-loop
-add-i c = search needs
-
-loop-less : tie.Need-loop-less Inv-loop μ-loop
-loop-less c = search needs
 
 loop-again : tie.Need-loop-again Inv-loop μ-loop
 loop-again c =
@@ -82,22 +67,5 @@ returns c =
 pub all-held-spec : {M : Type 1} → statement M
 all-held-spec =
     tie.close
-    (tie.spec
-    Inv-loop
-    μ-loop
-    loop-holds
-    mul-place
-    array-read-place
-    cast-place
-    mul-all
-    element-copy-out-all
-    mul-all-2
-    array-read-all
-    mul-all-3
-    array-read-all-2
-    mul-all-4
-    element-copy-out-all-2
-    add-i
-    loop-less
-    loop-again
-    returns)
+    (tie.spec Inv-loop μ-loop loop-holds (λ c. search needs) array-read-place cast-place mul-all element-copy-out-all (λ c. search needs)
+    array-read-all (λ c. search needs) array-read-all-2 mul-all-4 element-copy-out-all-2 (λ c. search needs) (λ c. search needs) loop-again returns)

@@ -20,9 +20,6 @@ abbrev μ-loop : tie.MeasureT-loop
 loop-holds : tie.Need-loop-holds Inv-loop μ-loop
 loop-holds c = storing-start
 
-mul-place : tie.Need-mul-place Inv-loop μ-loop
-mul-place c = search needs
-
 array-read-place : tie.Need-array-read-place Inv-loop μ-loop
 array-read-place c = search needs
 
@@ -35,14 +32,8 @@ mul-held c = omega (arith, c .before .before .pre .1 (c .before .loop .i) (omega
 element-copy-out-held : tie.Need-element-copy-out-held Inv-loop μ-loop
 element-copy-out-held c = omega (arith, c .before .before .pre .1 (c .before .loop .i) (omega arith))
 
-mul-held-2 : tie.Need-mul-held-2 Inv-loop μ-loop
-mul-held-2 c = search needs
-
 array-read-held : tie.Need-array-read-held Inv-loop μ-loop
 array-read-held c = search needs
-
-mul-held-3 : tie.Need-mul-held-3 Inv-loop μ-loop
-mul-held-3 c = search needs
 
 array-read-held-2 : tie.Need-array-read-held-2 Inv-loop μ-loop
 array-read-held-2 c = search needs
@@ -59,29 +50,19 @@ mul-pick c = omega (arith, c .before .before .before .before .pre .1 (c .before 
 element-copy-out-pick : tie.Need-element-copy-out-pick Inv-loop μ-loop
 element-copy-out-pick c = omega (arith, c .before .before .before .before .pre .1 (c .before .before .before .loop .i) (omega arith))
 
-mul-pick-2 : tie.Need-mul-pick-2 Inv-loop μ-loop
-mul-pick-2 c = search needs
-
 array-read-pick : tie.Need-array-read-pick Inv-loop μ-loop
 array-read-pick c = search needs
 
 pick-requires : tie.Need-pick-requires Inv-loop μ-loop
 pick-requires c κs = search needs
 
-mul-result : tie.Need-mul-result Inv-loop μ-loop
-mul-result c = search needs
-
 array-write-result : tie.Need-array-write-result Inv-loop μ-loop
 array-write-result c = search needs
 
-add-i : tie.Need-add-i Inv-loop μ-loop
-add-i c = search needs
-
-loop-less : tie.Need-loop-less Inv-loop μ-loop
-loop-less c = search needs
-
 loop-again : tie.Need-loop-again Inv-loop μ-loop
-loop-again c = storing-turn (c .before .before .before .before .before .loop .inv) (omega arith) (omega arith) (c .pick .ensures)
+loop-again c =
+    let s5 = c .before .before .before .before .before in
+    storing-turn (s5 .loop .inv) (omega arith) (omega arith) (c .pick .ensures)
 
 returns : tie.Need-returns Inv-loop μ-loop
 returns c = lanes-stored (c .before .loop .inv) (omega arith)
@@ -89,29 +70,6 @@ returns c = lanes-stored (c .before .loop .inv) (omega arith)
 pub colors-at-spec : {M : Type 1} → statement M
 colors-at-spec =
     tie.close
-    (tie.spec
-    Inv-loop
-    μ-loop
-    loop-holds
-    mul-place
-    array-read-place
-    cast-place
-    mul-held
-    element-copy-out-held
-    mul-held-2
-    array-read-held
-    mul-held-3
-    array-read-held-2
-    mul-held-4
-    element-copy-out-held-2
-    mul-pick
-    element-copy-out-pick
-    mul-pick-2
-    array-read-pick
-    pick-requires
-    mul-result
-    array-write-result
-    add-i
-    loop-less
-    loop-again
-    returns)
+    (tie.spec Inv-loop μ-loop loop-holds (λ c. search needs) array-read-place cast-place mul-held element-copy-out-held (λ c. search needs)
+    array-read-held (λ c. search needs) array-read-held-2 mul-held-4 element-copy-out-held-2 mul-pick element-copy-out-pick (λ c. search needs)
+    array-read-pick pick-requires (λ c. search needs) array-write-result (λ c. search needs) (λ c. search needs) loop-again returns)

@@ -18,24 +18,6 @@ returns c =
     getD-replicate 16 k (a .u .nodata) 0 q
     ∙ sym (plain-none (a .starts .now) (a .ends .now) (a .colors .now) (a .count) (a .u) (getD (a .value) k nan) (c .if1 .taken)))
 
-band-at-requires : tie.Need-band-at-requires
-band-at-requires c κs = search needs
-
-sub-band-at : tie.Need-sub-band-at
-sub-band-at c = search needs
-
-band-at-requires-2 : tie.Need-band-at-requires-2
-band-at-requires-2 c κs = search needs
-
-edge-colors-requires : tie.Need-edge-colors-requires
-edge-colors-requires c κs = search needs
-
-band-indices-requires : tie.Need-band-indices-requires
-band-indices-requires c κs = search needs
-
-colors-at-requires : tie.Need-colors-at-requires
-colors-at-requires c κs = search needs
-
 returns-2 : tie.Need-returns-2
 returns-2 c =
     let s = c .before .before .before .before .before .before in
@@ -49,12 +31,5 @@ returns-2 c =
 pub colors-for-numeric-values-spec : {M : Type 1} → statement M
 colors-for-numeric-values-spec =
     tie.close
-    (tie.spec
-    returns
-    band-at-requires
-    sub-band-at
-    band-at-requires-2
-    edge-colors-requires
-    band-indices-requires
-    colors-at-requires
-    returns-2)
+    (tie.spec returns (λ c κs. search needs) (λ c. search needs) (λ c κs. search needs) (λ c κs. search needs) (λ c κs. search needs)
+    (λ c κs. search needs) returns-2)

@@ -23,14 +23,8 @@ loop-holds c = (omega arith, few (c .args .keys .now) (min 1 (c .args .count)) (
 sub-before : tie.Need-sub-before Inv-loop μ-loop
 sub-before c = search needs
 
-mul-below : tie.Need-mul-below Inv-loop μ-loop
-mul-below c = search needs
-
 element-copy-out-below : tie.Need-element-copy-out-below Inv-loop μ-loop
 element-copy-out-below c = search needs
-
-mul-below-2 : tie.Need-mul-below-2 Inv-loop μ-loop
-mul-below-2 c = search needs
 
 element-copy-out-below-2 : tie.Need-element-copy-out-below-2 Inv-loop μ-loop
 element-copy-out-below-2 c = search needs
@@ -39,13 +33,8 @@ returns : tie.Need-returns Inv-loop μ-loop
 returns c =
     let l = c .before .before .before .before in
     let a = l .before .args in
-    sym (stops (a .keys .now) (l .loop .i) (l .loop .inv .0) (toZ-ofZ w64 _ (record { sfits = c .before .before .below .given })) (toZ-ofZ w64 _ (record { sfits = c .before .below2 .given })) (a .count) (omega arith) (c .if1 .taken))
-
-add-i : tie.Need-add-i Inv-loop μ-loop
-add-i c = search needs
-
-loop-less : tie.Need-loop-less Inv-loop μ-loop
-loop-less c = search needs
+    sym (stops (a .keys .now) (l .loop .i) (l .loop .inv .0) (toZ-ofZ w64 _ (record { sfits = c .before .before .below .given }))
+    (toZ-ofZ w64 _ (record { sfits = c .before .below2 .given })) (a .count) (omega arith) (c .if1 .taken))
 
 loop-again : tie.Need-loop-again Inv-loop μ-loop
 loop-again c =
@@ -55,8 +44,9 @@ loop-again c =
     let d : min i (a .count) ≡ i = omega arith in
     let e : min (i + 1) (a .count) ≡ i + 1 = omega arith in
     let up = sym (ap (ascends (a .keys .now)) d) ∙ l .loop .inv .1 in
-    let more = goes-on (a .keys .now) i (l .loop .inv .0) (toZ-ofZ w64 _ (record { sfits = c .before .before .below .given })) (toZ-ofZ w64 _ (record { sfits = c .before .below2 .given })) up (c .if1 .left) in
-    (omega arith, ap (ascends (a .keys .now)) e ∙ more)
+    let one = toZ-ofZ w64 _ (record { sfits = c .before .before .below .given }) in
+    let next = toZ-ofZ w64 _ (record { sfits = c .before .below2 .given }) in
+    (omega arith, ap (ascends (a .keys .now)) e ∙ goes-on (a .keys .now) i (l .loop .inv .0) one next up (c .if1 .left))
 
 returns-2 : tie.Need-returns-2 Inv-loop μ-loop
 returns-2 c =
@@ -68,17 +58,5 @@ returns-2 c =
 pub ascending-spec : {M : Type 1} → statement M
 ascending-spec =
     tie.close
-    (tie.spec
-    Inv-loop
-    μ-loop
-    loop-holds
-    sub-before
-    mul-below
-    element-copy-out-below
-    mul-below-2
-    element-copy-out-below-2
-    returns
-    add-i
-    loop-less
-    loop-again
-    returns-2)
+    (tie.spec Inv-loop μ-loop loop-holds sub-before (λ c. search needs) element-copy-out-below (λ c. search needs) element-copy-out-below-2 returns
+    (λ c. search needs) (λ c. search needs) loop-again returns-2)

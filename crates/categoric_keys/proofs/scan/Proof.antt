@@ -25,14 +25,8 @@ abbrev μ-loop : tie.MeasureT-loop
 loop-holds : tie.Need-loop-holds Inv-loop μ-loop
 loop-holds c = search needs
 
-mul-if1 : tie.Need-mul-if1 Inv-loop μ-loop
-mul-if1 c = search needs
-
 element-copy-out-if1 : tie.Need-element-copy-out-if1 Inv-loop μ-loop
 element-copy-out-if1 c = search needs
-
-mul-result : tie.Need-mul-result Inv-loop μ-loop
-mul-result c = search needs
 
 element-copy-out-result : tie.Need-element-copy-out-result Inv-loop μ-loop
 element-copy-out-result c = search needs
@@ -44,15 +38,10 @@ returns c =
     let a = s .args in
     let i = l .loop .i in
     let back = toZ-ofZ w64 (a .key) (s .fits .key) in
-    let same = same-bits w64 (getD (a .keys .now) i (pos 0)) (a .key) (record { sfits = c .before .before .if12 .given }) (s .fits .key) (c .before .if1 .taken) in
+    let key = getD (a .keys .now) i (pos 0) in
+    let same = same-bits w64 key (a .key) (record { sfits = c .before .before .if12 .given }) (s .fits .key) (c .before .if1 .taken) in
     sym (ap (ruleColor (categoricRuleColors [] (a .colors .now) (a .nodata)))
     (found-at (a .keys .now) (a .key) (a .count) i (c .before .before .before .loop-test .taken) same (λ j q e. l .loop .inv j q (e ∙ sym back))))
-
-add-i : tie.Need-add-i Inv-loop μ-loop
-add-i c = search needs
-
-loop-less : tie.Need-loop-less Inv-loop μ-loop
-loop-less c = search needs
 
 loop-again : tie.Need-loop-again Inv-loop μ-loop
 loop-again c =
@@ -72,16 +61,5 @@ returns-2 c =
 pub scan-spec : {M : Type 1} → statement M
 scan-spec =
     tie.close
-    (tie.spec
-    Inv-loop
-    μ-loop
-    loop-holds
-    mul-if1
-    element-copy-out-if1
-    mul-result
-    element-copy-out-result
-    returns
-    add-i
-    loop-less
-    loop-again
-    returns-2)
+    (tie.spec Inv-loop μ-loop loop-holds (λ c. search needs) element-copy-out-if1 (λ c. search needs) element-copy-out-result returns
+    (λ c. search needs) (λ c. search needs) loop-again returns-2)

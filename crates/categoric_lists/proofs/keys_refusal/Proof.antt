@@ -20,9 +20,6 @@ abbrev μ-loop : tie.MeasureT-loop
 loop-holds : tie.Need-loop-holds Inv-loop μ-loop
 loop-holds c = search needs
 
-mul-out-of-range : tie.Need-mul-out-of-range Inv-loop μ-loop
-mul-out-of-range c = search needs
-
 element-copy-out-out-of-range : tie.Need-element-copy-out-out-of-range Inv-loop μ-loop
 element-copy-out-out-of-range c = search needs
 
@@ -34,20 +31,18 @@ returns c =
     let s = c .before .before .before .before .before in
     let l = c .before .before .before .before .loop in
     let k = getD (s .args .keys .now) (l .i) (pos 0) in
-    key-refused (s .args .keys .now) (s .args .count) (l .i) (s .pre .1) (s .pre .0) (l .inv .1) (c .before .before .before .loop-test .taken) (sym (c .before .out-of-range .ensures ∙ ap outside (back k (c .before .before .out-of-range-arg .given))) ∙ c .if1 .taken)
-
-add-i : tie.Need-add-i Inv-loop μ-loop
-add-i c = search needs
-
-loop-less : tie.Need-loop-less Inv-loop μ-loop
-loop-less c = search needs
+    key-refused (s .args .keys .now) (s .args .count) (l .i) (s .pre .1) (s .pre .0) (l .inv .1) (c .before .before .before .loop-test .taken)
+    (sym (c .before .out-of-range .ensures ∙ ap outside (back k (c .before .before .out-of-range-arg .given))) ∙ c .if1 .taken)
 
 loop-again : tie.Need-loop-again Inv-loop μ-loop
 loop-again c =
     let s = c .before .before .before .before .before in
     let l = c .before .before .before .before .loop in
-    let k = getD (s .args .keys .now) (l .i) (pos 0) in
-    (omega arith, key-passed (s .args .keys .now) (s .args .count) (l .i) (s .pre .1) (s .pre .0) (l .inv .1) (c .before .before .before .loop-test .taken) (sym (c .before .out-of-range .ensures ∙ ap outside (back k (c .before .before .out-of-range-arg .given))) ∙ c .if1 .left))
+    let k = getD (s .args .keys .now) (l .i) (pos 0) in (
+      omega arith,
+      key-passed (s .args .keys .now) (s .args .count) (l .i) (s .pre .1) (s .pre .0) (l .inv .1) (c .before .before .before .loop-test .taken)
+          (sym (c .before .out-of-range .ensures ∙ ap outside (back k (c .before .before .out-of-range-arg .given))) ∙ c .if1 .left),
+    )
 
 returns-2 : tie.Need-returns-2 Inv-loop μ-loop
 returns-2 c =
@@ -57,15 +52,5 @@ returns-2 c =
 pub keys-refusal-spec : {M : Type 1} → statement M
 keys-refusal-spec =
     tie.close
-    (tie.spec
-    Inv-loop
-    μ-loop
-    loop-holds
-    mul-out-of-range
-    element-copy-out-out-of-range
-    out-of-range-requires
-    returns
-    add-i
-    loop-less
-    loop-again
-    returns-2)
+    (tie.spec Inv-loop μ-loop loop-holds (λ c. search needs) element-copy-out-out-of-range out-of-range-requires returns (λ c. search needs)
+    (λ c. search needs) loop-again returns-2)

@@ -21,23 +21,11 @@ abbrev μ-loop : tie.MeasureT-loop
 loop-holds : tie.Need-loop-holds Inv-loop μ-loop
 loop-holds c = (search needs, storing-start)
 
-mul-result : tie.Need-mul-result Inv-loop μ-loop
-mul-result c = search needs
-
 shared-slice-copy-out-result : tie.Need-shared-slice-copy-out-result Inv-loop μ-loop
 shared-slice-copy-out-result c = search needs
 
-mul-result-2 : tie.Need-mul-result-2 Inv-loop μ-loop
-mul-result-2 c = search needs
-
 array-set-from-result : tie.Need-array-set-from-result Inv-loop μ-loop
 array-set-from-result c = search needs
-
-add-i : tie.Need-add-i Inv-loop μ-loop
-add-i c = search needs
-
-loop-less : tie.Need-loop-less Inv-loop μ-loop
-loop-less c = search needs
 
 loop-again : tie.Need-loop-again Inv-loop μ-loop
 loop-again c = (search needs, storing-turn (c .before .before .loop .inv .1) (omega arith) (search needs) (back _ (c .result .given)))
@@ -49,15 +37,5 @@ returns c =
 pub list-keys-spec : {M : Type 1} → statement M
 list-keys-spec =
     tie.close
-    (tie.spec
-    Inv-loop
-    μ-loop
-    loop-holds
-    mul-result
-    shared-slice-copy-out-result
-    mul-result-2
-    array-set-from-result
-    add-i
-    loop-less
-    loop-again
-    returns)
+    (tie.spec Inv-loop μ-loop loop-holds (λ c. search needs) shared-slice-copy-out-result (λ c. search needs) array-set-from-result
+    (λ c. search needs) (λ c. search needs) loop-again returns)

@@ -31,25 +31,26 @@ cast-key c = search needs
 add-key : tie.Need-add-key Inv-loop μ-loop
 add-key c =
     let l = c .before .loop in
-    record { sfits = subst (λ z. mag (toZ w64 (ofZ w64 (c .before .before .args .start)) +ℤ z) < 2 ^ 63) (sym (toZ-pos w64 (l .i) (omega arith))) (subst (λ z. mag (z +ℤ pos (l .i)) < 2 ^ 63) (sym (back (c .before .before .args .start) (c .before .before .fits .start .sfits))) (c .before .before .pre .1 (l .i) (c .loop-test .taken) .sfits)) }
-
-mul-keys : tie.Need-mul-keys Inv-loop μ-loop
-mul-keys c = search needs
+    record {
+      sfits =
+          subst (λ z. mag (toZ w64 (ofZ w64 (c .before .before .args .start)) +ℤ z) < 2 ^ 63) (sym (toZ-pos w64 (l .i) (omega arith)))
+          (subst (λ z. mag (z +ℤ pos (l .i)) < 2 ^ 63) (sym (back (c .before .before .args .start) (c .before .before .fits .start .sfits)))
+          (c .before .before .pre .1 (l .i) (c .loop-test .taken) .sfits));
+    }
 
 array-set-from-keys : tie.Need-array-set-from-keys Inv-loop μ-loop
 array-set-from-keys c = search needs
 
-add-i : tie.Need-add-i Inv-loop μ-loop
-add-i c = search needs
-
-loop-less : tie.Need-loop-less Inv-loop μ-loop
-loop-less c = search needs
-
 loop-again : tie.Need-loop-again Inv-loop μ-loop
 loop-again c =
     let s = c .before .before in
-    let l = c .before .loop in
-    (search needs, storing-turn (l .inv .1) (c .loop-test .taken) (search needs) (ap (λ z. toZ w64 (ofZ w64 (toZ w64 (ofZ w64 (s .args .start)) +ℤ z))) (toZ-pos w64 (l .i) (omega arith)) ∙ back (toZ w64 (ofZ w64 (s .args .start)) +ℤ pos (l .i)) (subst (λ z. mag (z +ℤ pos (l .i)) < 2 ^ 63) (sym (back (s .args .start) (s .fits .start .sfits))) (s .pre .1 (l .i) (c .loop-test .taken) .sfits))))
+    let l = c .before .loop in (
+      search needs,
+      storing-turn (l .inv .1) (c .loop-test .taken) (search needs)
+          (ap (λ z. toZ w64 (ofZ w64 (toZ w64 (ofZ w64 (s .args .start)) +ℤ z))) (toZ-pos w64 (l .i) (omega arith))
+          ∙ back (toZ w64 (ofZ w64 (s .args .start)) +ℤ pos (l .i))
+          (subst (λ z. mag (z +ℤ pos (l .i)) < 2 ^ 63) (sym (back (s .args .start) (s .fits .start .sfits))) (s .pre .1 (l .i) (c .loop-test .taken) .sfits))),
+    )
 
 returns : tie.Need-returns Inv-loop μ-loop
 returns c =
@@ -60,15 +61,5 @@ returns c =
 pub range-keys-spec : {M : Type 1} → statement M
 range-keys-spec =
     tie.close
-    (tie.spec
-    Inv-loop
-    μ-loop
-    loop-holds
-    cast-key
-    add-key
-    mul-keys
-    array-set-from-keys
-    add-i
-    loop-less
-    loop-again
+    (tie.spec Inv-loop μ-loop loop-holds cast-key add-key (λ c. search needs) array-set-from-keys (λ c. search needs) (λ c. search needs) loop-again
     returns)

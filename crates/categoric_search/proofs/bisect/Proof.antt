@@ -31,9 +31,6 @@ upper c =
 loop-holds : tie.Need-loop-holds Inv-loop μ-loop
 loop-holds c = filling-start (search needs)
 
-mul-at : tie.Need-mul-at Inv-loop μ-loop
-mul-at c = search needs
-
 array-read-at : tie.Need-array-read-at Inv-loop μ-loop
 array-read-at c = search needs
 
@@ -42,9 +39,6 @@ add-at c = omega (arith, c .before .before .pre .1 (c .before .loop .i) (c .loop
 
 cast-at : tie.Need-cast-at Inv-loop μ-loop
 cast-at c = omega (arith, c .before .before .pre .1 (c .before .loop .i) (c .loop-test .taken))
-
-mul-result : tie.Need-mul-result Inv-loop μ-loop
-mul-result c = search needs
 
 array-read-result : tie.Need-array-read-result Inv-loop μ-loop
 array-read-result c = search needs
@@ -55,9 +49,6 @@ mul-result-2 c = omega (arith, c .before .before .pre .1 (c .before .loop .i) (c
 element-copy-out-result : tie.Need-element-copy-out-result Inv-loop μ-loop
 element-copy-out-result c = omega (arith, c .before .before .pre .1 (c .before .loop .i) (c .loop-test .taken))
 
-mul-result-3 : tie.Need-mul-result-3 Inv-loop μ-loop
-mul-result-3 c = search needs
-
 array-copy-out-result : tie.Need-array-copy-out-result Inv-loop μ-loop
 array-copy-out-result c = search needs
 
@@ -65,22 +56,25 @@ cast-result : tie.Need-cast-result Inv-loop μ-loop
 cast-result c = search needs
 
 mul-result-4 : tie.Need-mul-result-4 Inv-loop μ-loop
-mul-result-4 c = let s = c .before .before .before .before in let a = s .args in record { fits = step-fits (getD (a .t4) (c .before .before .before .loop .i) 0) (a .step) (upper c) (s .pre .1 (c .before .before .before .loop .i) (c .before .before .loop-test .taken)) .0 }
+mul-result-4 c =
+    let s = c .before .before .before .before in
+    let a = s .args in
+    record {
+      fits = step-fits (getD (a .t4) (c .before .before .before .loop .i) 0) (a .step) (upper c)
+          (s .pre .1 (c .before .before .before .loop .i) (c .before .before .loop-test .taken)) .0;
+    }
 
 add-result : tie.Need-add-result Inv-loop μ-loop
-add-result c = let s = c .before .before .before .before in let a = s .args in record { fits = step-fits (getD (a .t4) (c .before .before .before .loop .i) 0) (a .step) (upper c) (s .pre .1 (c .before .before .before .loop .i) (c .before .before .loop-test .taken)) .1 }
-
-mul-result-5 : tie.Need-mul-result-5 Inv-loop μ-loop
-mul-result-5 c = search needs
+add-result c =
+    let s = c .before .before .before .before in
+    let a = s .args in
+    record {
+      fits = step-fits (getD (a .t4) (c .before .before .before .loop .i) 0) (a .step) (upper c)
+          (s .pre .1 (c .before .before .before .loop .i) (c .before .before .loop-test .taken)) .1;
+    }
 
 array-write-result : tie.Need-array-write-result Inv-loop μ-loop
 array-write-result c = search needs
-
-add-i : tie.Need-add-i Inv-loop μ-loop
-add-i c = search needs
-
-loop-less : tie.Need-loop-less Inv-loop μ-loop
-loop-less c = search needs
 
 loop-again : tie.Need-loop-again Inv-loop μ-loop
 unfolding bisect
@@ -93,32 +87,15 @@ returns : tie.Need-returns Inv-loop μ-loop
 returns c =
     let s = c .before .before in
     let a = s .args in
-    let lanes = filling-end (c .before .loop .inv) (omega arith) in
-    (lanes, λ k h. subst (λ (p : ℕ). p + a .step ≤ 256) (sym (lanes k h)) (step-within (a .narrow .now) (a .step) (getD (a .t3) k (pos 0)) (getD (a .t4) k 0) (s .pre .1 k h)))
+    let lanes = filling-end (c .before .loop .inv) (omega arith) in (
+      lanes,
+      λ k h. subst (λ (p : ℕ). p + a .step ≤ 256) (sym (lanes k h))
+          (step-within (a .narrow .now) (a .step) (getD (a .t3) k (pos 0)) (getD (a .t4) k 0) (s .pre .1 k h)),
+    )
 
 pub bisect-spec : {M : Type 1} → statement M
 bisect-spec =
     tie.close
-    (tie.spec
-    Inv-loop
-    μ-loop
-    loop-holds
-    mul-at
-    array-read-at
-    add-at
-    cast-at
-    mul-result
-    array-read-result
-    mul-result-2
-    element-copy-out-result
-    mul-result-3
-    array-copy-out-result
-    cast-result
-    mul-result-4
-    add-result
-    mul-result-5
-    array-write-result
-    add-i
-    loop-less
-    loop-again
-    returns)
+    (tie.spec Inv-loop μ-loop loop-holds (λ c. search needs) array-read-at add-at cast-at (λ c. search needs) array-read-result mul-result-2
+    element-copy-out-result (λ c. search needs) array-copy-out-result cast-result mul-result-4 add-result (λ c. search needs) array-write-result
+    (λ c. search needs) (λ c. search needs) loop-again returns)

@@ -19,9 +19,6 @@ abbrev μ-loop : tie.MeasureT-loop
 loop-holds : tie.Need-loop-holds Inv-loop μ-loop
 loop-holds c = filling-start (search needs)
 
-mul-place : tie.Need-mul-place Inv-loop μ-loop
-mul-place c = search needs
-
 array-read-place : tie.Need-array-read-place Inv-loop μ-loop
 array-read-place c = search needs
 
@@ -34,17 +31,8 @@ mul-result c = omega (arith, c .before .before .pre (c .before .loop .i) (c .loo
 element-copy-out-result : tie.Need-element-copy-out-result Inv-loop μ-loop
 element-copy-out-result c = omega (arith, c .before .before .pre (c .before .loop .i) (c .loop-test .taken))
 
-mul-result-2 : tie.Need-mul-result-2 Inv-loop μ-loop
-mul-result-2 c = search needs
-
 array-set-from-result : tie.Need-array-set-from-result Inv-loop μ-loop
 array-set-from-result c = search needs
-
-add-i : tie.Need-add-i Inv-loop μ-loop
-add-i c = search needs
-
-loop-less : tie.Need-loop-less Inv-loop μ-loop
-loop-less c = search needs
 
 loop-again : tie.Need-loop-again Inv-loop μ-loop
 loop-again c = filling-turn (c .before .before .loop .inv) (omega arith) (omega arith) (toZ-ofZ w32 _ (record { sfits = c .result .given }))
@@ -55,18 +43,5 @@ returns c = filling-end (c .before .loop .inv) (omega arith)
 pub keys-at-spec : {M : Type 1} → statement M
 keys-at-spec =
     tie.close
-    (tie.spec
-    Inv-loop
-    μ-loop
-    loop-holds
-    mul-place
-    array-read-place
-    cast-place
-    mul-result
-    element-copy-out-result
-    mul-result-2
-    array-set-from-result
-    add-i
-    loop-less
-    loop-again
-    returns)
+    (tie.spec Inv-loop μ-loop loop-holds (λ c. search needs) array-read-place cast-place mul-result element-copy-out-result (λ c. search needs)
+    array-set-from-result (λ c. search needs) (λ c. search needs) loop-again returns)

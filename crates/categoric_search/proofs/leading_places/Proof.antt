@@ -22,29 +22,20 @@ abbrev μ-loop : tie.MeasureT-loop
 loop-holds : tie.Need-loop-holds Inv-loop μ-loop
 loop-holds c = filling-start (search needs)
 
-mul-leading-place : tie.Need-mul-leading-place Inv-loop μ-loop
-mul-leading-place c = search needs
-
 array-copy-out-leading-place : tie.Need-array-copy-out-leading-place Inv-loop μ-loop
 array-copy-out-leading-place c = search needs
 
 leading-place-requires : tie.Need-leading-place-requires Inv-loop μ-loop
 leading-place-requires c κs = search needs
 
-mul-result : tie.Need-mul-result Inv-loop μ-loop
-mul-result c = search needs
-
 array-write-result : tie.Need-array-write-result Inv-loop μ-loop
 array-write-result c = search needs
 
-add-i : tie.Need-add-i Inv-loop μ-loop
-add-i c = search needs
-
-loop-less : tie.Need-loop-less Inv-loop μ-loop
-loop-less c = search needs
-
 loop-again : tie.Need-loop-again Inv-loop μ-loop
-loop-again c = filling-turn (c .before .before .before .loop .inv) (omega arith) (omega arith) (c .leading-place .ensures ∙ ap (firstStep (c .before .before .before .before .args .narrow .now)) (toZ-ofZ w32 _ (record { sfits = c .before .leading-place-arg .given })))
+loop-again c =
+    filling-turn (c .before .before .before .loop .inv) (omega arith) (omega arith)
+    (c .leading-place .ensures ∙ ap (firstStep (c .before .before .before .before .args .narrow .now))
+    (toZ-ofZ w32 _ (record { sfits = c .before .leading-place-arg .given })))
 
 returns : tie.Need-returns Inv-loop μ-loop
 returns c =
@@ -55,16 +46,5 @@ returns c =
 pub leading-places-spec : {M : Type 1} → statement M
 leading-places-spec =
     tie.close
-    (tie.spec
-    Inv-loop
-    μ-loop
-    loop-holds
-    mul-leading-place
-    array-copy-out-leading-place
-    leading-place-requires
-    mul-result
-    array-write-result
-    add-i
-    loop-less
-    loop-again
-    returns)
+    (tie.spec Inv-loop μ-loop loop-holds (λ c. search needs) array-copy-out-leading-place leading-place-requires (λ c. search needs)
+    array-write-result (λ c. search needs) (λ c. search needs) loop-again returns)

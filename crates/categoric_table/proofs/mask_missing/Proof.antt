@@ -22,17 +22,11 @@ abbrev μ-loop : tie.MeasureT-loop
 loop-holds : tie.Need-loop-holds Inv-loop μ-loop
 loop-holds c = storing-start
 
-mul-v : tie.Need-mul-v Inv-loop μ-loop
-mul-v c = search needs
-
 array-read-v : tie.Need-array-read-v Inv-loop μ-loop
 array-read-v c = search needs
 
 in-table-requires : tie.Need-in-table-requires Inv-loop μ-loop
 in-table-requires c κs = search needs
-
-mul-pick : tie.Need-mul-pick Inv-loop μ-loop
-mul-pick c = search needs
 
 array-read-pick : tie.Need-array-read-pick Inv-loop μ-loop
 array-read-pick c = search needs
@@ -40,17 +34,8 @@ array-read-pick c = search needs
 pick-requires : tie.Need-pick-requires Inv-loop μ-loop
 pick-requires c κs = search needs
 
-mul-result : tie.Need-mul-result Inv-loop μ-loop
-mul-result c = search needs
-
 array-write-result : tie.Need-array-write-result Inv-loop μ-loop
 array-write-result c = search needs
-
-add-i : tie.Need-add-i Inv-loop μ-loop
-add-i c = search needs
-
-loop-less : tie.Need-loop-less Inv-loop μ-loop
-loop-less c = search needs
 
 loop-again : tie.Need-loop-again Inv-loop μ-loop
 unfolding mappableInTable
@@ -62,19 +47,5 @@ returns c = lanes-stored (c .before .loop .inv) (omega arith)
 pub mask-missing-spec : {M : Type 1} → statement M
 mask-missing-spec =
     tie.close
-    (tie.spec
-    Inv-loop
-    μ-loop
-    loop-holds
-    mul-v
-    array-read-v
-    in-table-requires
-    mul-pick
-    array-read-pick
-    pick-requires
-    mul-result
-    array-write-result
-    add-i
-    loop-less
-    loop-again
-    returns)
+    (tie.spec Inv-loop μ-loop loop-holds (λ c. search needs) array-read-v in-table-requires (λ c. search needs) array-read-pick pick-requires
+    (λ c. search needs) array-write-result (λ c. search needs) (λ c. search needs) loop-again returns)

@@ -21,9 +21,6 @@ abbrev μ-loop : tie.MeasureT-loop
 loop-holds : tie.Need-loop-holds Inv-loop μ-loop
 loop-holds c = storing-start
 
-mul-floor : tie.Need-mul-floor Inv-loop μ-loop
-mul-floor c = search needs
-
 array-read-floor : tie.Need-array-read-floor Inv-loop μ-loop
 array-read-floor c = search needs
 
@@ -45,17 +42,8 @@ mul-result c = let l = index-lt c in search needs
 element-copy-out-result : tie.Need-element-copy-out-result Inv-loop μ-loop
 element-copy-out-result c = let l = index-lt c in search needs
 
-mul-result-2 : tie.Need-mul-result-2 Inv-loop μ-loop
-mul-result-2 c = search needs
-
 array-write-result : tie.Need-array-write-result Inv-loop μ-loop
 array-write-result c = search needs
-
-add-i : tie.Need-add-i Inv-loop μ-loop
-add-i c = search needs
-
-loop-less : tie.Need-loop-less Inv-loop μ-loop
-loop-less c = search needs
 
 loop-again : tie.Need-loop-again Inv-loop μ-loop
 loop-again c =
@@ -68,18 +56,5 @@ returns c = lanes-stored (c .before .loop .inv) (omega arith)
 pub words-at-spec : {M : Type 1} → statement M
 words-at-spec =
     tie.close
-    (tie.spec
-    Inv-loop
-    μ-loop
-    loop-holds
-    mul-floor
-    array-read-floor
-    floor-requires
-    mul-result
-    element-copy-out-result
-    mul-result-2
-    array-write-result
-    add-i
-    loop-less
-    loop-again
-    returns)
+    (tie.spec Inv-loop μ-loop loop-holds (λ c. search needs) array-read-floor floor-requires mul-result element-copy-out-result (λ c. search needs)
+    array-write-result (λ c. search needs) (λ c. search needs) loop-again returns)

@@ -19,17 +19,8 @@ loop-holds c = filling-start (search needs)
 spread-at-requires : tie.Need-spread-at-requires Inv-loop μ-loop
 spread-at-requires c κs = search needs
 
-mul-cmap : tie.Need-mul-cmap Inv-loop μ-loop
-mul-cmap c = search needs
-
 array-write-cmap : tie.Need-array-write-cmap Inv-loop μ-loop
 array-write-cmap c = search needs
-
-add-i : tie.Need-add-i Inv-loop μ-loop
-add-i c = search needs
-
-loop-less : tie.Need-loop-less Inv-loop μ-loop
-loop-less c = search needs
 
 loop-again : tie.Need-loop-again Inv-loop μ-loop
 loop-again c = filling-turn (c .before .before .loop .inv) (omega arith) (search needs) (c .spread-at .ensures)
@@ -41,14 +32,5 @@ returns c = filled (c .before .loop .inv) (omega arith)
 pub from-color-list-spec : {M : Type 1} → statement M
 from-color-list-spec =
     tie.close
-    (tie.spec
-    Inv-loop
-    μ-loop
-    loop-holds
-    spread-at-requires
-    mul-cmap
-    array-write-cmap
-    add-i
-    loop-less
-    loop-again
+    (tie.spec Inv-loop μ-loop loop-holds spread-at-requires (λ c. search needs) array-write-cmap (λ c. search needs) (λ c. search needs) loop-again
     returns)

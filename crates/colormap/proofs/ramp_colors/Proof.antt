@@ -13,7 +13,8 @@ use Rattle.colormap.proofs.ramp_colors.Statement.{statement}
 use Rattle.colormap.proofs.ramp_colors.Tie as tie
 
 abbrev Inv-loop : tie.InvT-loop
-Inv-loop cmap count step position₀ colors₀ i₀ position colors i = (position ≡ at count i) × (length colors ≡ 256) × Storing 0 (λ k. entryColor cmap (plainEntry (at count k))) 256 count i colors
+Inv-loop cmap count step position₀ colors₀ i₀ position colors i =
+    (position ≡ at count i) × (length colors ≡ 256) × Storing 0 (λ k. entryColor cmap (plainEntry (at count k))) 256 count i colors
 
 abbrev μ-loop : tie.MeasureT-loop
 μ-loop cmap count step position₀ colors₀ i₀ position colors i = count - i
@@ -28,21 +29,19 @@ loop-holds c = (refl, search needs, storing-start)
 get-color-requires : tie.Need-get-color-requires Inv-loop μ-loop
 get-color-requires c κs = search needs
 
-mul-colors : tie.Need-mul-colors Inv-loop μ-loop
-mul-colors c = search needs
-
 array-write-colors : tie.Need-array-write-colors Inv-loop μ-loop
 array-write-colors c = search needs
 
-add-i : tie.Need-add-i Inv-loop μ-loop
-add-i c = search needs
-
-loop-less : tie.Need-loop-less Inv-loop μ-loop
-loop-less c = search needs
-
 loop-again : tie.Need-loop-again Inv-loop μ-loop
 unfolding at
-loop-again c = (ap₂ (add binary32) (c .before .before .loop .inv .0) (c .before .before .before .color-step .ensures) ∙ sym (ap (at (c .before .before .before .before .args .count)) (add-one (c .before .before .loop .i))), search needs, storing-turn (c .before .before .loop .inv .2) (omega arith) (search needs) (c .get-color .ensures ∙ ap (λ f. entryColor (c .before .before .before .before .args .cmap .now) (plainEntry f)) (c .before .before .loop .inv .0)))
+loop-again c = (
+  ap₂ (add binary32) (c .before .before .loop .inv .0) (c .before .before .before .color-step .ensures)
+      ∙ sym (ap (at (c .before .before .before .before .args .count)) (add-one (c .before .before .loop .i))),
+  search needs,
+  storing-turn
+      (c .before .before .loop .inv .2) (omega arith) (search needs)
+      (c .get-color .ensures ∙ ap (λ f. entryColor (c .before .before .before .before .args .cmap .now) (plainEntry f)) (c .before .before .loop .inv .0)),
+)
 
 returns : tie.Need-returns Inv-loop μ-loop
 unfolding rampColors
@@ -51,15 +50,5 @@ returns c = storing-end (c .before .loop .inv .2) (omega arith)
 pub ramp-colors-spec : {M : Type 1} → statement M
 ramp-colors-spec =
     tie.close
-    (tie.spec
-    Inv-loop
-    μ-loop
-    color-step-requires
-    loop-holds
-    get-color-requires
-    mul-colors
-    array-write-colors
-    add-i
-    loop-less
-    loop-again
-    returns)
+    (tie.spec Inv-loop μ-loop color-step-requires loop-holds get-color-requires (λ c. search needs) array-write-colors (λ c. search needs)
+    (λ c. search needs) loop-again returns)

@@ -21,26 +21,14 @@ loop-holds : tie.Need-loop-holds Inv-loop μ-loop
 unfolding ofBits
 loop-holds c = storing-start
 
-mul-lane-fraction : tie.Need-mul-lane-fraction Inv-loop μ-loop
-mul-lane-fraction c = search needs
-
 array-read-lane-fraction : tie.Need-array-read-lane-fraction Inv-loop μ-loop
 array-read-lane-fraction c = search needs
 
 lane-fraction-requires : tie.Need-lane-fraction-requires Inv-loop μ-loop
 lane-fraction-requires c κs = search needs
 
-mul-result : tie.Need-mul-result Inv-loop μ-loop
-mul-result c = search needs
-
 array-write-result : tie.Need-array-write-result Inv-loop μ-loop
 array-write-result c = search needs
-
-add-i : tie.Need-add-i Inv-loop μ-loop
-add-i c = search needs
-
-loop-less : tie.Need-loop-less Inv-loop μ-loop
-loop-less c = search needs
 
 loop-again : tie.Need-loop-again Inv-loop μ-loop
 loop-again c = storing-turn (c .before .before .loop .inv) (omega arith) (omega arith) (c .lane-fraction .ensures)
@@ -51,16 +39,5 @@ returns c = lanes-stored (c .before .loop .inv) (omega arith)
 pub linear-map-to-float-simd-spec : {M : Type 1} → statement M
 linear-map-to-float-simd-spec =
     tie.close
-    (tie.spec
-    Inv-loop
-    μ-loop
-    loop-holds
-    mul-lane-fraction
-    array-read-lane-fraction
-    lane-fraction-requires
-    mul-result
-    array-write-result
-    add-i
-    loop-less
-    loop-again
-    returns)
+    (tie.spec Inv-loop μ-loop loop-holds (λ c. search needs) array-read-lane-fraction lane-fraction-requires (λ c. search needs) array-write-result
+    (λ c. search needs) (λ c. search needs) loop-again returns)

@@ -20,42 +20,22 @@ abbrev μ-loop : tie.MeasureT-loop
 loop-holds : tie.Need-loop-holds Inv-loop μ-loop
 loop-holds c = (refl, chunks-start (search needs))
 
-sub-loop : tie.Need-sub-loop Inv-loop μ-loop
-sub-loop c = search needs
-
 block-requires : tie.Need-block-requires Inv-loop μ-loop
 block-requires c κs = (omega arith, omega arith)
 
-add-base : tie.Need-add-base Inv-loop μ-loop
-add-base c = search needs
-
-loop-less : tie.Need-loop-less Inv-loop μ-loop
-loop-less c = search needs
-
 loop-again : tie.Need-loop-again Inv-loop μ-loop
-loop-again c = (refl, chunk-turn (c .before .before .before .before .before .loop .inv .1) (omega arith) (omega arith) (λ xs. length-map xs _) (c .before .before .block .ensures))
-
-rest-requires : tie.Need-rest-requires Inv-loop μ-loop
-rest-requires c κs = search needs
-
-same-length : tie.Need-same-length Inv-loop μ-loop
-same-length c = search needs
+loop-again c =
+    let s5 = c .before .before .before .before .before in
+    (refl, chunk-turn (s5 .loop .inv .1) (omega arith) (omega arith) (λ xs. length-map xs _) (c .before .before .block .ensures))
 
 returns : tie.Need-returns Inv-loop μ-loop
-returns c = c .before .before .rest .ensures ∙ chunks-end (c .before .before .before .before .before .loop .inv .1) (omega arith) ∙ plain-in-blocks 16 _ _
+returns c =
+    let s5 = c .before .before .before .before .before in
+    c .before .before .rest .ensures ∙ chunks-end (s5 .loop .inv .1) (omega arith) ∙ plain-in-blocks 16 _ _
 
 pub paint-spec : {M : Type 1} → statement M
 paint-spec =
     tie.close
-    (tie.spec
-    Inv-loop
-    μ-loop
-    loop-holds
-    sub-loop
-    block-requires
-    add-base
-    loop-less
-    loop-again
-    rest-requires
-    same-length
+    (tie.spec Inv-loop μ-loop loop-holds (λ c. search needs) block-requires (λ c. search needs) (λ c. search needs) loop-again (λ c κs. search needs)
+    (λ c. search needs)
     returns)

@@ -24,16 +24,23 @@ sub-loop : tie.Need-sub-loop Inv-loop μ-loop
 sub-loop c = search needs
 
 chunk-requires : tie.Need-chunk-requires Inv-loop μ-loop
-chunk-requires c κs = (c .before .before .before .before .before .pre .0, omega arith, omega arith)
-
-add-base : tie.Need-add-base Inv-loop μ-loop
-add-base c = search needs
+chunk-requires c κs =
+    let s5 = c .before .before .before .before .before in
+    (s5 .pre .0, omega arith, omega arith)
 
 loop-less : tie.Need-loop-less Inv-loop μ-loop
-loop-less c = omega (arith, lane-sizes (c .before .before .before .before .before .before .before .before .args .l) (c .before .before .before .before .before .before .before .before .pre .0) .0)
+loop-less c =
+    let s8 = c .before .before .before .before .before .before .before .before in
+    omega (arith, lane-sizes (s8 .args .l) (s8 .pre .0) .0)
 
 loop-again : tie.Need-loop-again Inv-loop μ-loop
-loop-again c = (refl, chunk-turn (c .before .before .before .before .before .loop .inv .1) (lane-sizes _ (c .before .before .before .before .before .before .before .before .pre .0) .0) (omega arith) (λ xs. length-masked _ _ xs _ (length-map xs _)) (c .before .before .chunk .ensures))
+loop-again c =
+    let s5 = c .before .before .before .before .before in
+    let s8 = s5 .before .before .before in (
+      refl,
+      chunk-turn (s5 .loop .inv .1) (lane-sizes _ (s8 .pre .0) .0) (omega arith) (λ xs. length-masked _ _ xs _ (length-map xs _))
+          (c .before .before .chunk .ensures),
+    )
 
 rest-requires : tie.Need-rest-requires Inv-loop μ-loop
 rest-requires c κs = search needs
@@ -42,20 +49,11 @@ same-length : tie.Need-same-length Inv-loop μ-loop
 same-length c = search needs
 
 returns : tie.Need-returns Inv-loop μ-loop
-returns c = c .before .before .rest .ensures ∙ chunks-end (c .before .before .before .before .before .loop .inv .1) (omega arith)
+returns c =
+    let s5 = c .before .before .before .before .before in
+    c .before .before .rest .ensures ∙ chunks-end (s5 .loop .inv .1) (omega arith)
 
 pub paint-simd-spec : {M : Type 1} → statement M
 paint-simd-spec =
     tie.close
-    (tie.spec
-    Inv-loop
-    μ-loop
-    loop-holds
-    sub-loop
-    chunk-requires
-    add-base
-    loop-less
-    loop-again
-    rest-requires
-    same-length
-    returns)
+    (tie.spec Inv-loop μ-loop loop-holds sub-loop chunk-requires (λ c. search needs) loop-less loop-again rest-requires same-length returns)

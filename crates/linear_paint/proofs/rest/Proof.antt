@@ -12,7 +12,8 @@ use Rattle.linear_paint.proofs.rest.Statement.{statement}
 use Rattle.linear_paint.proofs.rest.Tie as tie
 
 abbrev Inv-loop : tie.InvT-loop
-Inv-loop cmap p src base out₀ n i₀ out i = (n ≡ length src) × Plainly (take base out₀ ++ map (plainSample cmap p) (drop base src)) (plainSample cmap p) src i out
+Inv-loop cmap p src base out₀ n i₀ out i =
+    (n ≡ length src) × Plainly (take base out₀ ++ map (plainSample cmap p) (drop base src)) (plainSample cmap p) src i out
 
 abbrev μ-loop : tie.MeasureT-loop
 μ-loop cmap p src base out₀ n i₀ out i = n - i
@@ -20,26 +21,14 @@ abbrev μ-loop : tie.MeasureT-loop
 loop-holds : tie.Need-loop-holds Inv-loop μ-loop
 loop-holds c = (refl, record { upto = search needs; same = search needs; is = refl })
 
-mul-sample : tie.Need-mul-sample Inv-loop μ-loop
-mul-sample c = search needs
-
 shared-slice-read-sample : tie.Need-shared-slice-read-sample Inv-loop μ-loop
 shared-slice-read-sample c = search needs
 
 sample-requires : tie.Need-sample-requires Inv-loop μ-loop
 sample-requires c κs = search needs
 
-mul-out : tie.Need-mul-out Inv-loop μ-loop
-mul-out c = search needs
-
 slice-write-out : tie.Need-slice-write-out Inv-loop μ-loop
 slice-write-out c = search needs
-
-add-i : tie.Need-add-i Inv-loop μ-loop
-add-i c = search needs
-
-loop-less : tie.Need-loop-less Inv-loop μ-loop
-loop-less c = search needs
 
 loop-again : tie.Need-loop-again Inv-loop μ-loop
 loop-again c = (refl, plain-turn nan (c .before .before .before .loop .inv .1) (omega arith) (c .sample .ensures))
@@ -53,17 +42,5 @@ returns c = plain-end (c .before .loop .inv .1) (omega arith)
 pub rest-spec : {M : Type 1} → statement M
 rest-spec =
     tie.close
-    (tie.spec
-    Inv-loop
-    μ-loop
-    loop-holds
-    mul-sample
-    shared-slice-read-sample
-    sample-requires
-    mul-out
-    slice-write-out
-    add-i
-    loop-less
-    loop-again
-    same-length
-    returns)
+    (tie.spec Inv-loop μ-loop loop-holds (λ c. search needs) shared-slice-read-sample sample-requires (λ c. search needs) slice-write-out
+    (λ c. search needs) (λ c. search needs) loop-again same-length returns)

@@ -20,14 +20,8 @@ abbrev μ-loop : tie.MeasureT-loop
 loop-holds : tie.Need-loop-holds Inv-loop μ-loop
 loop-holds c = storing-start
 
-mul-in-range : tie.Need-mul-in-range Inv-loop μ-loop
-mul-in-range c = search needs
-
 array-read-in-range : tie.Need-array-read-in-range Inv-loop μ-loop
 array-read-in-range c = search needs
-
-mul-in-range-2 : tie.Need-mul-in-range-2 Inv-loop μ-loop
-mul-in-range-2 c = search needs
 
 array-read-in-range-2 : tie.Need-array-read-in-range-2 Inv-loop μ-loop
 array-read-in-range-2 c = search needs
@@ -35,17 +29,8 @@ array-read-in-range-2 c = search needs
 in-range-requires : tie.Need-in-range-requires Inv-loop μ-loop
 in-range-requires c κs = search needs
 
-mul-result : tie.Need-mul-result Inv-loop μ-loop
-mul-result c = search needs
-
 array-write-result : tie.Need-array-write-result Inv-loop μ-loop
 array-write-result c = search needs
-
-add-i : tie.Need-add-i Inv-loop μ-loop
-add-i c = search needs
-
-loop-less : tie.Need-loop-less Inv-loop μ-loop
-loop-less c = search needs
 
 loop-again : tie.Need-loop-again Inv-loop μ-loop
 loop-again c = storing-turn (c .before .before .loop .inv) (omega arith) (omega arith) (c .in-range .ensures)
@@ -56,18 +41,5 @@ returns c = lanes-stored (c .before .loop .inv) (omega arith)
 pub in-ranges-spec : {M : Type 1} → statement M
 in-ranges-spec =
     tie.close
-    (tie.spec
-    Inv-loop
-    μ-loop
-    loop-holds
-    mul-in-range
-    array-read-in-range
-    mul-in-range-2
-    array-read-in-range-2
-    in-range-requires
-    mul-result
-    array-write-result
-    add-i
-    loop-less
-    loop-again
-    returns)
+    (tie.spec Inv-loop μ-loop loop-holds (λ c. search needs) array-read-in-range (λ c. search needs) array-read-in-range-2 in-range-requires
+    (λ c. search needs) array-write-result (λ c. search needs) (λ c. search needs) loop-again returns)

@@ -21,9 +21,6 @@ abbrev μ-loop : tie.MeasureT-loop
 loop-holds : tie.Need-loop-holds Inv-loop μ-loop
 loop-holds c = storing-start
 
-mul-unit-or-zero : tie.Need-mul-unit-or-zero Inv-loop μ-loop
-mul-unit-or-zero c = search needs
-
 array-read-unit-or-zero : tie.Need-array-read-unit-or-zero Inv-loop μ-loop
 array-read-unit-or-zero c = search needs
 
@@ -33,23 +30,11 @@ unit-or-zero-requires c κs = search needs
 lane-index-requires : tie.Need-lane-index-requires Inv-loop μ-loop
 lane-index-requires c κs = c .unit-or-zero .ensures .1
 
-mul-result : tie.Need-mul-result Inv-loop μ-loop
-mul-result c = search needs
-
 element-copy-out-result : tie.Need-element-copy-out-result Inv-loop μ-loop
 element-copy-out-result c = search needs
 
-mul-result-2 : tie.Need-mul-result-2 Inv-loop μ-loop
-mul-result-2 c = search needs
-
 array-write-result : tie.Need-array-write-result Inv-loop μ-loop
 array-write-result c = search needs
-
-add-i : tie.Need-add-i Inv-loop μ-loop
-add-i c = search needs
-
-loop-less : tie.Need-loop-less Inv-loop μ-loop
-loop-less c = search needs
 
 loop-again : tie.Need-loop-again Inv-loop μ-loop
 loop-again c =
@@ -63,19 +48,5 @@ returns c = lanes-stored (c .before .loop .inv) (omega arith)
 pub gather-spec : {M : Type 1} → statement M
 gather-spec =
     tie.close
-    (tie.spec
-    Inv-loop
-    μ-loop
-    loop-holds
-    mul-unit-or-zero
-    array-read-unit-or-zero
-    unit-or-zero-requires
-    lane-index-requires
-    mul-result
-    element-copy-out-result
-    mul-result-2
-    array-write-result
-    add-i
-    loop-less
-    loop-again
-    returns)
+    (tie.spec Inv-loop μ-loop loop-holds (λ c. search needs) array-read-unit-or-zero unit-or-zero-requires lane-index-requires (λ c. search needs)
+    element-copy-out-result (λ c. search needs) array-write-result (λ c. search needs) (λ c. search needs) loop-again returns)

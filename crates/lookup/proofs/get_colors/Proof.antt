@@ -19,26 +19,14 @@ abbrev μ-loop : tie.MeasureT-loop
 loop-holds : tie.Need-loop-holds Inv-loop μ-loop
 loop-holds c = storing-start
 
-mul-get-color : tie.Need-mul-get-color Inv-loop μ-loop
-mul-get-color c = search needs
-
 array-read-get-color : tie.Need-array-read-get-color Inv-loop μ-loop
 array-read-get-color c = search needs
 
 get-color-requires : tie.Need-get-color-requires Inv-loop μ-loop
 get-color-requires c κs = search needs
 
-mul-result : tie.Need-mul-result Inv-loop μ-loop
-mul-result c = search needs
-
 array-write-result : tie.Need-array-write-result Inv-loop μ-loop
 array-write-result c = search needs
-
-add-i : tie.Need-add-i Inv-loop μ-loop
-add-i c = search needs
-
-loop-less : tie.Need-loop-less Inv-loop μ-loop
-loop-less c = search needs
 
 loop-again : tie.Need-loop-again Inv-loop μ-loop
 loop-again c = storing-turn (c .before .before .loop .inv) (omega arith) (search needs) (c .get-color .ensures)
@@ -49,16 +37,5 @@ returns c = lanes-stored (c .before .loop .inv) (omega arith)
 pub get-colors-spec : {M : Type 1} → statement M
 get-colors-spec =
     tie.close
-    (tie.spec
-    Inv-loop
-    μ-loop
-    loop-holds
-    mul-get-color
-    array-read-get-color
-    get-color-requires
-    mul-result
-    array-write-result
-    add-i
-    loop-less
-    loop-again
-    returns)
+    (tie.spec Inv-loop μ-loop loop-holds (λ c. search needs) array-read-get-color get-color-requires (λ c. search needs) array-write-result
+    (λ c. search needs) (λ c. search needs) loop-again returns)

@@ -24,17 +24,11 @@ to-bits-requires c κs = search needs
 loop-holds : tie.Need-loop-holds Inv-loop μ-loop
 loop-holds c = storing-start
 
-mul-in-unit : tie.Need-mul-in-unit Inv-loop μ-loop
-mul-in-unit c = search needs
-
 array-read-in-unit : tie.Need-array-read-in-unit Inv-loop μ-loop
 array-read-in-unit c = search needs
 
 in-unit-requires : tie.Need-in-unit-requires Inv-loop μ-loop
 in-unit-requires c κs = search needs
-
-mul-pick : tie.Need-mul-pick Inv-loop μ-loop
-mul-pick c = search needs
 
 array-read-pick : tie.Need-array-read-pick Inv-loop μ-loop
 array-read-pick c = search needs
@@ -42,20 +36,13 @@ array-read-pick c = search needs
 pick-requires : tie.Need-pick-requires Inv-loop μ-loop
 pick-requires c κs = search needs
 
-mul-result : tie.Need-mul-result Inv-loop μ-loop
-mul-result c = search needs
-
 array-write-result : tie.Need-array-write-result Inv-loop μ-loop
 array-write-result c = search needs
 
-add-i : tie.Need-add-i Inv-loop μ-loop
-add-i c = search needs
-
-loop-less : tie.Need-loop-less Inv-loop μ-loop
-loop-less c = search needs
-
 loop-again : tie.Need-loop-again Inv-loop μ-loop
-loop-again c = storing-turn (c .before .before .before .loop .inv) (omega arith) (omega arith) (c .pick .ensures ∙ cc (c .before .in-unit .ensures, c .before .before .before .before .to-bits .ensures))
+loop-again c =
+    storing-turn (c .before .before .before .loop .inv) (omega arith) (omega arith)
+    (c .pick .ensures ∙ cc (c .before .in-unit .ensures, c .before .before .before .before .to-bits .ensures))
 
 returns : tie.Need-returns Inv-loop μ-loop
 returns c = lanes-stored (c .before .loop .inv) (omega arith)
@@ -63,20 +50,5 @@ returns c = lanes-stored (c .before .loop .inv) (omega arith)
 pub mask-outside-spec : {M : Type 1} → statement M
 mask-outside-spec =
     tie.close
-    (tie.spec
-    Inv-loop
-    μ-loop
-    to-bits-requires
-    loop-holds
-    mul-in-unit
-    array-read-in-unit
-    in-unit-requires
-    mul-pick
-    array-read-pick
-    pick-requires
-    mul-result
-    array-write-result
-    add-i
-    loop-less
-    loop-again
-    returns)
+    (tie.spec Inv-loop μ-loop to-bits-requires loop-holds (λ c. search needs) array-read-in-unit in-unit-requires (λ c. search needs)
+    array-read-pick pick-requires (λ c. search needs) array-write-result (λ c. search needs) (λ c. search needs) loop-again returns)

@@ -18,29 +18,17 @@ abbrev μ-loop : tie.MeasureT-loop
 loop-holds : tie.Need-loop-holds Inv-loop μ-loop
 loop-holds c = copy-start
 
-add-to : tie.Need-add-to Inv-loop μ-loop
-add-to c = search needs
-
-mul-to : tie.Need-mul-to Inv-loop μ-loop
-mul-to c = search needs
-
 shared-slice-read-to : tie.Need-shared-slice-read-to Inv-loop μ-loop
 shared-slice-read-to c = search needs
-
-mul-to-2 : tie.Need-mul-to-2 Inv-loop μ-loop
-mul-to-2 c = search needs
 
 slice-write-to : tie.Need-slice-write-to Inv-loop μ-loop
 slice-write-to c = search needs
 
-add-i : tie.Need-add-i Inv-loop μ-loop
-add-i c = search needs
-
-loop-less : tie.Need-loop-less Inv-loop μ-loop
-loop-less c = search needs
-
 loop-again : tie.Need-loop-again Inv-loop μ-loop
-loop-again c = copy-turn (c .before .before .loop .inv) (omega arith) (omega arith) (omega (arith, length-drop (c .before .before .before .args .at) (c .before .before .before .args .from .now))) (omega arith) (sym (getD-drop (c .before .before .before .args .at) (c .before .before .before .args .from .now) (c .before .before .loop .i) 0))
+loop-again c =
+    copy-turn (c .before .before .loop .inv) (omega arith) (omega arith)
+    (omega (arith, length-drop (c .before .before .before .args .at) (c .before .before .before .args .from .now))) (omega arith)
+    (sym (getD-drop (c .before .before .before .args .at) (c .before .before .before .args .from .now) (c .before .before .loop .i) 0))
 
 same-length : tie.Need-same-length Inv-loop μ-loop
 same-length c = search needs
@@ -51,17 +39,5 @@ returns c = copy-end (c .before .loop .inv) (omega arith)
 pub copied-spec : {M : Type 1} → statement M
 copied-spec =
     tie.close
-    (tie.spec
-    Inv-loop
-    μ-loop
-    loop-holds
-    add-to
-    mul-to
-    shared-slice-read-to
-    mul-to-2
-    slice-write-to
-    add-i
-    loop-less
-    loop-again
-    same-length
-    returns)
+    (tie.spec Inv-loop μ-loop loop-holds (λ c. search needs) (λ c. search needs) shared-slice-read-to (λ c. search needs) slice-write-to
+    (λ c. search needs) (λ c. search needs) loop-again same-length returns)

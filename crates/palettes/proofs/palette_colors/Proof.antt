@@ -23,35 +23,18 @@ loop-holds c = filling-start (search needs)
 palette-color-requires : tie.Need-palette-color-requires Inv-loop μ-loop
 palette-color-requires c κs = search needs
 
-mul-colors : tie.Need-mul-colors Inv-loop μ-loop
-mul-colors c = search needs
-
 array-write-colors : tie.Need-array-write-colors Inv-loop μ-loop
 array-write-colors c = search needs
-
-add-i : tie.Need-add-i Inv-loop μ-loop
-add-i c = search needs
-
-loop-less : tie.Need-loop-less Inv-loop μ-loop
-loop-less c = search needs
 
 loop-again : tie.Need-loop-again Inv-loop μ-loop
 loop-again c = filling-turn (c .before .before .loop .inv) (omega arith) (search needs) (c .palette-color .ensures)
 
 returns : tie.Need-returns Inv-loop μ-loop
-returns c = filled (c .before .loop .inv) (omega arith) ∙ tabulate-padded 0 12 (palette (c .before .before .args .number)) (size-le (c .before .before .args .number))
+returns c =
+    filled (c .before .loop .inv) (omega arith) ∙ tabulate-padded 0 12 (palette (c .before .before .args .number)) (size-le (c .before .before .args .number))
 
 pub palette-colors-spec : {M : Type 1} → statement M
 palette-colors-spec =
     tie.close
-    (tie.spec
-    Inv-loop
-    μ-loop
-    loop-holds
-    palette-color-requires
-    mul-colors
-    array-write-colors
-    add-i
-    loop-less
-    loop-again
-    returns)
+    (tie.spec Inv-loop μ-loop loop-holds palette-color-requires (λ c. search needs) array-write-colors (λ c. search needs) (λ c. search needs)
+    loop-again returns)

@@ -17,29 +17,14 @@ abbrev μ-loop : tie.MeasureT-loop
 loop-holds : tie.Need-loop-holds Inv-loop μ-loop
 loop-holds c = filling-start (search needs)
 
-mul-to-i64 : tie.Need-mul-to-i64 Inv-loop μ-loop
-mul-to-i64 c = search needs
-
 array-read-to-i64 : tie.Need-array-read-to-i64 Inv-loop μ-loop
 array-read-to-i64 c = search needs
-
-to-i64-requires : tie.Need-to-i64-requires Inv-loop μ-loop
-to-i64-requires c κs = search needs
 
 whole-high-requires : tie.Need-whole-high-requires Inv-loop μ-loop
 whole-high-requires c κs = search needs
 
-mul-words : tie.Need-mul-words Inv-loop μ-loop
-mul-words c = search needs
-
 array-write-words : tie.Need-array-write-words Inv-loop μ-loop
 array-write-words c = search needs
-
-add-i : tie.Need-add-i Inv-loop μ-loop
-add-i c = search needs
-
-loop-less : tie.Need-loop-less Inv-loop μ-loop
-loop-less c = search needs
 
 loop-again : tie.Need-loop-again Inv-loop μ-loop
 loop-again c =
@@ -53,17 +38,5 @@ returns c = filled (c .before .loop .inv) (omega arith)
 pub high-words-spec : {M : Type 1} → statement M
 high-words-spec =
     tie.close
-    (tie.spec
-    Inv-loop
-    μ-loop
-    loop-holds
-    mul-to-i64
-    array-read-to-i64
-    to-i64-requires
-    whole-high-requires
-    mul-words
-    array-write-words
-    add-i
-    loop-less
-    loop-again
-    returns)
+    (tie.spec Inv-loop μ-loop loop-holds (λ c. search needs) array-read-to-i64 (λ c κs. search needs) whole-high-requires (λ c. search needs)
+    array-write-words (λ c. search needs) (λ c. search needs) loop-again returns)

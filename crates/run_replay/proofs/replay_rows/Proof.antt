@@ -19,12 +19,6 @@ cast-replay-row c = search needs
 replay-row-requires : tie.Need-replay-row-requires Inv-loop μ-loop
 replay-row-requires c κs = search needs
 
-add-i : tie.Need-add-i Inv-loop μ-loop
-add-i c = search needs
-
-loop-less : tie.Need-loop-less Inv-loop μ-loop
-loop-less c = search needs
-
 loop-again : tie.Need-loop-again Inv-loop μ-loop
 loop-again c = search needs
 
@@ -37,14 +31,4 @@ returns-2 c = search needs
 pub replay-rows-spec : {M : Type 1} → statement M
 replay-rows-spec =
     tie.close
-    (tie.spec
-    Inv-loop
-    μ-loop
-    loop-holds
-    cast-replay-row
-    replay-row-requires
-    add-i
-    loop-less
-    loop-again
-    returns
-    returns-2)
+    (tie.spec Inv-loop μ-loop loop-holds cast-replay-row replay-row-requires (λ c. search needs) (λ c. search needs) loop-again returns returns-2)

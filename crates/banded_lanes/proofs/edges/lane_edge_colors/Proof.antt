@@ -19,14 +19,8 @@ abbrev μ-loop : tie.MeasureT-loop
 loop-holds : tie.Need-loop-holds Inv-loop μ-loop
 loop-holds c = storing-start
 
-mul-lane-edge-color : tie.Need-mul-lane-edge-color Inv-loop μ-loop
-mul-lane-edge-color c = search needs
-
 array-read-lane-edge-color : tie.Need-array-read-lane-edge-color Inv-loop μ-loop
 array-read-lane-edge-color c = search needs
-
-mul-lane-edge-color-2 : tie.Need-mul-lane-edge-color-2 Inv-loop μ-loop
-mul-lane-edge-color-2 c = search needs
 
 array-read-lane-edge-color-2 : tie.Need-array-read-lane-edge-color-2 Inv-loop μ-loop
 array-read-lane-edge-color-2 c = search needs
@@ -34,17 +28,8 @@ array-read-lane-edge-color-2 c = search needs
 lane-edge-color-requires : tie.Need-lane-edge-color-requires Inv-loop μ-loop
 lane-edge-color-requires c κs = search needs
 
-mul-result : tie.Need-mul-result Inv-loop μ-loop
-mul-result c = search needs
-
 array-write-result : tie.Need-array-write-result Inv-loop μ-loop
 array-write-result c = search needs
-
-add-i : tie.Need-add-i Inv-loop μ-loop
-add-i c = search needs
-
-loop-less : tie.Need-loop-less Inv-loop μ-loop
-loop-less c = search needs
 
 loop-again : tie.Need-loop-again Inv-loop μ-loop
 loop-again c = storing-turn (c .before .before .loop .inv) (omega arith) (omega arith) (c .lane-edge-color .ensures)
@@ -55,18 +40,5 @@ returns c = lanes-stored (c .before .loop .inv) (omega arith)
 pub lane-edge-colors-spec : {M : Type 1} → statement M
 lane-edge-colors-spec =
     tie.close
-    (tie.spec
-    Inv-loop
-    μ-loop
-    loop-holds
-    mul-lane-edge-color
-    array-read-lane-edge-color
-    mul-lane-edge-color-2
-    array-read-lane-edge-color-2
-    lane-edge-color-requires
-    mul-result
-    array-write-result
-    add-i
-    loop-less
-    loop-again
-    returns)
+    (tie.spec Inv-loop μ-loop loop-holds (λ c. search needs) array-read-lane-edge-color (λ c. search needs) array-read-lane-edge-color-2
+    lane-edge-color-requires (λ c. search needs) array-write-result (λ c. search needs) (λ c. search needs) loop-again returns)

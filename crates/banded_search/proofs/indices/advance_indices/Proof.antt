@@ -21,14 +21,8 @@ abbrev μ-loop : tie.MeasureT-loop
 loop-holds : tie.Need-loop-holds Inv-loop μ-loop
 loop-holds c = storing-start
 
-mul-result : tie.Need-mul-result Inv-loop μ-loop
-mul-result c = search needs
-
 array-read-result : tie.Need-array-read-result Inv-loop μ-loop
 array-read-result c = search needs
-
-mul-result-2 : tie.Need-mul-result-2 Inv-loop μ-loop
-mul-result-2 c = search needs
 
 array-read-result-2 : tie.Need-array-read-result-2 Inv-loop μ-loop
 array-read-result-2 c = search needs
@@ -42,17 +36,8 @@ add-result c =
     let a = l .before .args in
     record { fits = moved-fits (getD (a .t4) (l .loop .i) 0) (le (a .start) (getD (a .t3) (l .loop .i) nan)) (l .before .pre .1 (l .loop .i) (omega arith)) }
 
-mul-result-3 : tie.Need-mul-result-3 Inv-loop μ-loop
-mul-result-3 c = search needs
-
 array-write-result : tie.Need-array-write-result Inv-loop μ-loop
 array-write-result c = search needs
-
-add-i : tie.Need-add-i Inv-loop μ-loop
-add-i c = search needs
-
-loop-less : tie.Need-loop-less Inv-loop μ-loop
-loop-less c = search needs
 
 loop-again : tie.Need-loop-again Inv-loop μ-loop
 loop-again c =
@@ -67,19 +52,5 @@ returns c = lanes-stored (c .before .loop .inv) (omega arith)
 pub advance-indices-spec : {M : Type 1} → statement M
 advance-indices-spec =
     tie.close
-    (tie.spec
-    Inv-loop
-    μ-loop
-    loop-holds
-    mul-result
-    array-read-result
-    mul-result-2
-    array-read-result-2
-    cast-result
-    add-result
-    mul-result-3
-    array-write-result
-    add-i
-    loop-less
-    loop-again
-    returns)
+    (tie.spec Inv-loop μ-loop loop-holds (λ c. search needs) array-read-result (λ c. search needs) array-read-result-2 cast-result add-result
+    (λ c. search needs) array-write-result (λ c. search needs) (λ c. search needs) loop-again returns)

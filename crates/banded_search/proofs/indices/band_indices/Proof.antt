@@ -17,20 +17,11 @@ abbrev μ-loop : tie.MeasureT-loop
 loop-holds : tie.Need-loop-holds Inv-loop μ-loop
 loop-holds c = let a = c .args in (omega arith, placed-start (a .lanes) (a .starts .now) (a .value) (min 1 (a .count)) (omega arith) (omega arith))
 
-mul-advance-indices : tie.Need-mul-advance-indices Inv-loop μ-loop
-mul-advance-indices c = search needs
-
 element-copy-out-advance-indices : tie.Need-element-copy-out-advance-indices Inv-loop μ-loop
 element-copy-out-advance-indices c = search needs
 
 advance-indices-requires : tie.Need-advance-indices-requires Inv-loop μ-loop
 advance-indices-requires c κs = search needs
-
-add-i : tie.Need-add-i Inv-loop μ-loop
-add-i c = search needs
-
-loop-less : tie.Need-loop-less Inv-loop μ-loop
-loop-less c = search needs
 
 loop-again : tie.Need-loop-again Inv-loop μ-loop
 loop-again c =
@@ -55,14 +46,5 @@ returns c =
 pub band-indices-spec : {M : Type 1} → statement M
 band-indices-spec =
     tie.close
-    (tie.spec
-    Inv-loop
-    μ-loop
-    loop-holds
-    mul-advance-indices
-    element-copy-out-advance-indices
-    advance-indices-requires
-    add-i
-    loop-less
-    loop-again
-    returns)
+    (tie.spec Inv-loop μ-loop loop-holds (λ c. search needs) element-copy-out-advance-indices advance-indices-requires (λ c. search needs) (λ c. search needs)
+    loop-again returns)

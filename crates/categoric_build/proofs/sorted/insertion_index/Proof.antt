@@ -22,9 +22,6 @@ abbrev μ-loop : tie.MeasureT-loop
 loop-holds : tie.Need-loop-holds Inv-loop μ-loop
 loop-holds c = search needs
 
-mul-if1 : tie.Need-mul-if1 Inv-loop μ-loop
-mul-if1 c = search needs
-
 element-copy-out-if1 : tie.Need-element-copy-out-if1 Inv-loop μ-loop
 element-copy-out-if1 c = search needs
 
@@ -32,39 +29,29 @@ returns : tie.Need-returns Inv-loop μ-loop
 returns c =
     let s = c .before .before .before .before in
     let k = toZ w64 (ofZ w64 (s .args .key)) in
-    place-found k (s .args .keys .now) (s .args .count) (c .before .before .before .loop .at) (s .pre .1) (s .pre .0) (c .before .before .before .loop .inv .1) (c .before .before .loop-test .taken) (sym (ap (leZ k) (back _ (c .before .if12 .given))) ∙ c .if1 .taken)
+    place-found k (s .args .keys .now) (s .args .count) (c .before .before .before .loop .at) (s .pre .1) (s .pre .0)
+    (c .before .before .before .loop .inv .1) (c .before .before .loop-test .taken) (sym (ap (leZ k) (back _ (c .before .if12 .given))) ∙ c .if1 .taken)
     ∙ ap (λ z. insertionIndex z (take (s .args .count) (s .args .keys .now))) (back (s .args .key) (s .fits .key .sfits))
-
-add-at : tie.Need-add-at Inv-loop μ-loop
-add-at c = search needs
-
-loop-less : tie.Need-loop-less Inv-loop μ-loop
-loop-less c = search needs
 
 loop-again : tie.Need-loop-again Inv-loop μ-loop
 loop-again c =
     let s = c .before .before .before .before in
-    let k = toZ w64 (ofZ w64 (s .args .key)) in
-    (omega arith, place-passed k (s .args .keys .now) (s .args .count) (c .before .before .before .loop .at) (s .pre .1) (s .pre .0) (c .before .before .before .loop .inv .1) (c .before .before .loop-test .taken) (sym (ap (leZ k) (back _ (c .before .if12 .given))) ∙ c .if1 .left))
+    let k = toZ w64 (ofZ w64 (s .args .key)) in (
+      omega arith,
+      place-passed k (s .args .keys .now) (s .args .count) (c .before .before .before .loop .at) (s .pre .1) (s .pre .0)
+          (c .before .before .before .loop .inv .1) (c .before .before .loop-test .taken) (sym (ap (leZ k) (back _ (c .before .if12 .given))) ∙ c .if1 .left),
+    )
 
 returns-2 : tie.Need-returns-2 Inv-loop μ-loop
 returns-2 c =
     let s = c .before .before in
     let k = toZ w64 (ofZ w64 (s .args .key)) in
-    place-ended k (s .args .keys .now) (s .args .count) (c .before .loop .at) (s .pre .1) (s .pre .0) (c .before .loop .inv .1) (c .before .loop .inv .0) (c .loop-test .left)
+    place-ended k (s .args .keys .now) (s .args .count) (c .before .loop .at) (s .pre .1) (s .pre .0) (c .before .loop .inv .1) (c .before .loop .inv .0)
+    (c .loop-test .left)
     ∙ ap (λ z. insertionIndex z (take (s .args .count) (s .args .keys .now))) (back (s .args .key) (s .fits .key .sfits))
 
 pub insertion-index-spec : {M : Type 1} → statement M
 insertion-index-spec =
     tie.close
-    (tie.spec
-    Inv-loop
-    μ-loop
-    loop-holds
-    mul-if1
-    element-copy-out-if1
-    returns
-    add-at
-    loop-less
-    loop-again
+    (tie.spec Inv-loop μ-loop loop-holds (λ c. search needs) element-copy-out-if1 returns (λ c. search needs) (λ c. search needs) loop-again
     returns-2)

@@ -23,39 +23,30 @@ loop-holds c = (search needs, search needs, sym (moved-start (pos 0) _ _ (omega 
 sub-below : tie.Need-sub-below Inv-loop μ-loop
 sub-below c = search needs
 
-mul-key : tie.Need-mul-key Inv-loop μ-loop
-mul-key c = search needs
-
 element-copy-out-key : tie.Need-element-copy-out-key Inv-loop μ-loop
 element-copy-out-key c = search needs
-
-mul-color : tie.Need-mul-color Inv-loop μ-loop
-mul-color c = search needs
 
 element-copy-out-color : tie.Need-element-copy-out-color Inv-loop μ-loop
 element-copy-out-color c = search needs
 
-mul-key-2 : tie.Need-mul-key-2 Inv-loop μ-loop
-mul-key-2 c = search needs
-
 element-set-from-key : tie.Need-element-set-from-key Inv-loop μ-loop
 element-set-from-key c = search needs
 
-mul-colors : tie.Need-mul-colors Inv-loop μ-loop
-mul-colors c = search needs
-
 element-write-colors : tie.Need-element-write-colors Inv-loop μ-loop
 element-write-colors c = search needs
-
-loop-less : tie.Need-loop-less Inv-loop μ-loop
-loop-less c = search needs
 
 loop-again : tie.Need-loop-again Inv-loop μ-loop
 loop-again c =
     let s = c .before .before .before .before in
     let l = c .before .before .before .loop in
-    let e : l .i ≡ suc (l .i - 1) = omega arith in
-    (omega arith, omega arith, ap (set (l .keys) (l .i)) (back _ (c .before .key .given)) ∙ ap (λ r. set r (l .i) (getD r (l .i - 1) (pos 0))) (l .inv .2) ∙ moved-turn (pos 0) (l .i) (l .i - 1) (s .args .count) (s .args .keys .now) e (l .inv .1) (omega arith), ap (λ r. set r (l .i) (getD r (l .i - 1) 0)) (l .inv .3) ∙ moved-turn 0 (l .i) (l .i - 1) (s .args .count) (s .args .colors .now) e (l .inv .1) (omega arith))
+    let e : l .i ≡ suc (l .i - 1) = omega arith in (
+      omega arith,
+      omega arith,
+      ap (set (l .keys) (l .i)) (back _ (c .before .key .given)) ∙ ap (λ r. set r (l .i) (getD r (l .i - 1) (pos 0))) (l .inv .2)
+          ∙ moved-turn (pos 0) (l .i) (l .i - 1) (s .args .count) (s .args .keys .now) e (l .inv .1) (omega arith),
+      ap (λ r. set r (l .i) (getD r (l .i - 1) 0))
+          (l .inv .3) ∙ moved-turn 0 (l .i) (l .i - 1) (s .args .count) (s .args .colors .now) e (l .inv .1) (omega arith),
+    )
 
 returns : tie.Need-returns Inv-loop μ-loop
 returns c =
@@ -67,19 +58,5 @@ returns c =
 pub shift-up-spec : {M : Type 1} → statement M
 shift-up-spec =
     tie.close
-    (tie.spec
-    Inv-loop
-    μ-loop
-    loop-holds
-    sub-below
-    mul-key
-    element-copy-out-key
-    mul-color
-    element-copy-out-color
-    mul-key-2
-    element-set-from-key
-    mul-colors
-    element-write-colors
-    loop-less
-    loop-again
-    returns)
+    (tie.spec Inv-loop μ-loop loop-holds sub-below (λ c. search needs) element-copy-out-key (λ c. search needs) element-copy-out-color
+    (λ c. search needs) element-set-from-key (λ c. search needs) element-write-colors (λ c. search needs) loop-again returns)

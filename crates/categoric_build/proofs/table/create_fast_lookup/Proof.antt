@@ -1,4 +1,4 @@
--- `create_fast_lookup` meets its contract: the loop has written the words of the keys passed. Each is an index of the table, since past the test the keys have one. Assumes nothing.
+-- `create_fast_lookup` meets its contract: the loop has written the words of the keys passed, each of which is an index of the table. Assumes nothing.
 use mathlib.Core.Bool.{true}
 use mathlib.Core.List.{List}
 use mathlib.Core.Path.{_≡_, sym, subst, refl, ap, _∙_}
@@ -37,10 +37,16 @@ module _ (c : tie.After-at Inv-loop μ-loop) where
   key-of = getD (c .before .before .before .before .args .keys .now) (c .before .before .loop .i) (pos 0)
 
   from-0 : below key-of ≡ 0
-  from-0 = let s = c .before .before .before .before in index-from-0 (s .args .keys .now) (s .args .count) (s .pre .1) (s .pre .0) (is-there (c .before .before .before)) (c .before .before .loop .i) (c .before .loop-test .taken)
+  from-0 =
+      let s = c .before .before .before .before in
+      index-from-0 (s .args .keys .now) (s .args .count) (s .pre .1) (s .pre .0) (is-there (c .before .before .before)) (c .before .before .loop .i)
+      (c .before .loop-test .taken)
 
   in-table : whole key-of < 513
-  in-table = let s = c .before .before .before .before in index-in-table (s .args .keys .now) (s .args .count) (s .pre .1) (s .pre .0) (is-there (c .before .before .before)) (c .before .before .loop .i) (c .before .loop-test .taken)
+  in-table =
+      let s = c .before .before .before .before in
+      index-in-table (s .args .keys .now) (s .args .count) (s .pre .1) (s .pre .0) (is-there (c .before .before .before)) (c .before .before .loop .i)
+      (c .before .loop-test .taken)
 
   read : toZ w64 (ofZ w64 key-of) ≡ key-of
   read = back key-of (c .at .given)
@@ -57,17 +63,11 @@ loop-holds : tie.Need-loop-holds Inv-loop μ-loop
 unfolding written
 loop-holds c = (omega arith, refl)
 
-mul-at : tie.Need-mul-at Inv-loop μ-loop
-mul-at c = search needs
-
 element-copy-out-at : tie.Need-element-copy-out-at Inv-loop μ-loop
 element-copy-out-at c = search needs
 
 cast-at : tie.Need-cast-at Inv-loop μ-loop
 cast-at c = (subst (λ z. T (nonNeg z)) (sym (read c)) (cast-may (key-of c) (from-0 c)), record { fits = omega (arith, index-is c, in-table c) })
-
-mul-lookup : tie.Need-mul-lookup Inv-loop μ-loop
-mul-lookup c = search needs
 
 element-copy-out-lookup : tie.Need-element-copy-out-lookup Inv-loop μ-loop
 element-copy-out-lookup c = search needs
@@ -78,17 +78,16 @@ mul-lookup-2 c = record { fits = omega (arith, index-is (c .before), in-table (c
 array-write-lookup : tie.Need-array-write-lookup Inv-loop μ-loop
 array-write-lookup c = omega (arith, index-is (c .before), in-table (c .before))
 
-add-i : tie.Need-add-i Inv-loop μ-loop
-add-i c = search needs
-
-loop-less : tie.Need-loop-less Inv-loop μ-loop
-loop-less c = search needs
-
 loop-again : tie.Need-loop-again Inv-loop μ-loop
 loop-again c =
     let s = c .before .before .before .before .before in
-    let l = c .before .before .before .loop in
-    (omega arith, ap (λ n. set (l .lookup) n (getD (s .args .colors .now) (l .i) 0)) (index-is (c .before)) ∙ ap (λ r. set r (whole (key-of (c .before))) (getD (s .args .colors .now) (l .i) 0)) (l .inv .1) ∙ word-written (s .args .keys .now) (s .args .count) (s .pre .1) (s .pre .0) (is-there (c .before .before .before .before)) (l .i) (c .before .before .loop-test .taken) (s .args .colors .now) (replicate 513 0))
+    let l = c .before .before .before .loop in (
+      omega arith,
+      ap (λ n. set (l .lookup) n (getD (s .args .colors .now) (l .i) 0)) (index-is (c .before))
+          ∙ ap (λ r. set r (whole (key-of (c .before))) (getD (s .args .colors .now) (l .i) 0)) (l .inv .1)
+          ∙ word-written (s .args .keys .now) (s .args .count) (s .pre .1) (s .pre .0) (is-there (c .before .before .before .before)) (l .i)
+          (c .before .before .loop-test .taken) (s .args .colors .now) (replicate 513 0),
+    )
 
 returns-2 : tie.Need-returns-2 Inv-loop μ-loop
 returns-2 c =
@@ -102,19 +101,5 @@ returns-2 c =
 pub create-fast-lookup-spec : {M : Type 1} → statement M
 create-fast-lookup-spec =
     tie.close
-    (tie.spec
-    Inv-loop
-    μ-loop
-    returns
-    loop-holds
-    mul-at
-    element-copy-out-at
-    cast-at
-    mul-lookup
-    element-copy-out-lookup
-    mul-lookup-2
-    array-write-lookup
-    add-i
-    loop-less
-    loop-again
-    returns-2)
+    (tie.spec Inv-loop μ-loop returns loop-holds (λ c. search needs) element-copy-out-at cast-at (λ c. search needs) element-copy-out-lookup
+    mul-lookup-2 array-write-lookup (λ c. search needs) (λ c. search needs) loop-again returns-2)

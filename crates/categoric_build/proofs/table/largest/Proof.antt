@@ -29,31 +29,25 @@ loop-holds : tie.Need-loop-holds Inv-loop μ-loop
 unfolding foremost
 loop-holds c = (omega arith, back _ (c .most .given) ∙ sym (getD-take _ _ 0 (pos 0) (c .before .pre .0)))
 
-mul-if1 : tie.Need-mul-if1 Inv-loop μ-loop
-mul-if1 c = search needs
-
 element-copy-out-if1 : tie.Need-element-copy-out-if1 Inv-loop μ-loop
 element-copy-out-if1 c = search needs
 
-mul-most : tie.Need-mul-most Inv-loop μ-loop
-mul-most c = search needs
-
 element-copy-out-most-2 : tie.Need-element-copy-out-most-2 Inv-loop μ-loop
 element-copy-out-most-2 c = search needs
-
-add-i : tie.Need-add-i Inv-loop μ-loop
-add-i c = search needs
-
-loop-less : tie.Need-loop-less Inv-loop μ-loop
-loop-less c = search needs
 
 loop-again : tie.Need-loop-again Inv-loop μ-loop
 loop-again c =
     let s = c .before .before .before .before .before in
     let l = c .before .before .before .loop in
     let k = getD (s .args .keys .now) (l .i) (pos 0) in
-    let e = ap₂ ltZ (l .inv .1) (back k (c .before .if12 .given)) in
-    (omega arith, ⊎-elim (λ w. ap (toZ w64) (w .2) ∙ back k (w .1 .given) ∙ foremost-new (λ x y. ltZ y x) (s .args .keys .now) (s .args .count) (l .i) (c .before .before .loop-test .taken) (sym e ∙ w .0 .taken)) (λ w. ap (toZ w64) (w .1) ∙ l .inv .1 ∙ foremost-kept (λ x y. ltZ y x) (s .args .keys .now) (s .args .count) (l .i) (c .before .before .loop-test .taken) (sym e ∙ w .0 .left)) (c .if1 .came))
+    let e = ap₂ ltZ (l .inv .1) (back k (c .before .if12 .given)) in (
+      omega arith,
+      ⊎-elim (λ w. ap (toZ w64) (w .2) ∙ back k (w .1 .given)
+          ∙ foremost-new (λ x y. ltZ y x) (s .args .keys .now) (s .args .count) (l .i) (c .before .before .loop-test .taken) (sym e ∙ w .0 .taken))
+          (λ w. ap (toZ w64) (w .1) ∙ l .inv .1
+          ∙ foremost-kept (λ x y. ltZ y x) (s .args .keys .now) (s .args .count) (l .i) (c .before .before .loop-test .taken) (sym e ∙ w .0 .left))
+          (c .if1 .came),
+    )
 
 returns : tie.Need-returns Inv-loop μ-loop
 returns c =
@@ -65,16 +59,5 @@ returns c =
 pub largest-spec : {M : Type 1} → statement M
 largest-spec =
     tie.close
-    (tie.spec
-    Inv-loop
-    μ-loop
-    element-copy-out-most
-    loop-holds
-    mul-if1
-    element-copy-out-if1
-    mul-most
-    element-copy-out-most-2
-    add-i
-    loop-less
-    loop-again
-    returns)
+    (tie.spec Inv-loop μ-loop element-copy-out-most loop-holds (λ c. search needs) element-copy-out-if1 (λ c. search needs) element-copy-out-most-2
+    (λ c. search needs) (λ c. search needs) loop-again returns)

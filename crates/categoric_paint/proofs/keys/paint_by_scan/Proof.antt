@@ -12,7 +12,8 @@ use Rattle.categoric_paint.proofs.keys.paint_by_scan.Statement.{stateme
 use Rattle.categoric_paint.proofs.keys.paint_by_scan.Tie as tie
 
 abbrev Inv-loop : tie.InvT-loop
-Inv-loop keys colors count p src out₀ n i₀ out i = (n ≡ length src) × Plainly (map (keySample keys colors count p) src) (keySample keys colors count p) src i out
+Inv-loop keys colors count p src out₀ n i₀ out i =
+    (n ≡ length src) × Plainly (map (keySample keys colors count p) src) (keySample keys colors count p) src i out
 
 abbrev μ-loop : tie.MeasureT-loop
 μ-loop keys colors count p src out₀ n i₀ out i = n - i
@@ -20,26 +21,14 @@ abbrev μ-loop : tie.MeasureT-loop
 loop-holds : tie.Need-loop-holds Inv-loop μ-loop
 loop-holds c = (refl, record { upto = search needs; same = search needs; is = refl })
 
-mul-key-sample : tie.Need-mul-key-sample Inv-loop μ-loop
-mul-key-sample c = search needs
-
 shared-slice-read-key-sample : tie.Need-shared-slice-read-key-sample Inv-loop μ-loop
 shared-slice-read-key-sample c = search needs
 
 key-sample-requires : tie.Need-key-sample-requires Inv-loop μ-loop
 key-sample-requires c κs = search needs
 
-mul-out : tie.Need-mul-out Inv-loop μ-loop
-mul-out c = search needs
-
 slice-write-out : tie.Need-slice-write-out Inv-loop μ-loop
 slice-write-out c = search needs
-
-add-i : tie.Need-add-i Inv-loop μ-loop
-add-i c = search needs
-
-loop-less : tie.Need-loop-less Inv-loop μ-loop
-loop-less c = search needs
 
 loop-again : tie.Need-loop-again Inv-loop μ-loop
 loop-again c = (refl, plain-turn nan (c .before .before .before .loop .inv .1) (omega arith) (c .key-sample .ensures))
@@ -53,17 +42,5 @@ returns c = plain-end (c .before .loop .inv .1) (omega arith)
 pub paint-by-scan-spec : {M : Type 1} → statement M
 paint-by-scan-spec =
     tie.close
-    (tie.spec
-    Inv-loop
-    μ-loop
-    loop-holds
-    mul-key-sample
-    shared-slice-read-key-sample
-    key-sample-requires
-    mul-out
-    slice-write-out
-    add-i
-    loop-less
-    loop-again
-    same-length
-    returns)
+    (tie.spec Inv-loop μ-loop loop-holds (λ c. search needs) shared-slice-read-key-sample key-sample-requires (λ c. search needs) slice-write-out
+    (λ c. search needs) (λ c. search needs) loop-again same-length returns)

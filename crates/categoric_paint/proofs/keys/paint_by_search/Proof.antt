@@ -28,19 +28,14 @@ sub-loop c = search needs
 block-by-search-requires : tie.Need-block-by-search-requires Inv-loop μ-loop
 block-by-search-requires c κs = (omega arith, omega arith)
 
-add-base : tie.Need-add-base Inv-loop μ-loop
-add-base c = search needs
-
-loop-less : tie.Need-loop-less Inv-loop μ-loop
-loop-less c = search needs
-
 loop-again : tie.Need-loop-again Inv-loop μ-loop
-loop-again c = (
-  refl,
-  omega arith,
-  omega arith,
-  chunk-turn (c .before .before .before .before .before .loop .inv .3) (omega arith) (omega arith) (λ xs. length-map xs _) (c .before .before .block-by-search .ensures),
-)
+loop-again c =
+    let s = c .before .before .before .before .before in (
+      refl,
+      omega arith,
+      omega arith,
+      chunk-turn (s .loop .inv .3) (omega arith) (omega arith) (λ xs. length-map xs _) (c .before .before .block-by-search .ensures),
+    )
 
 rest-by-search-requires : tie.Need-rest-by-search-requires Inv-loop μ-loop
 rest-by-search-requires c κs = search needs
@@ -50,22 +45,13 @@ same-length c = search needs
 
 returns : tie.Need-returns Inv-loop μ-loop
 returns c =
+    let s = c .before .before .before .before .before in
     c .before .before .rest-by-search .ensures
-    ∙ chunks-end (c .before .before .before .before .before .loop .inv .3) (omega arith)
+    ∙ chunks-end (s .loop .inv .3) (omega arith)
     ∙ plain-in-blocks 16 _ _
 
 pub paint-by-search-spec : {M : Type 1} → statement M
 paint-by-search-spec =
     tie.close
-    (tie.spec
-    Inv-loop
-    μ-loop
-    loop-holds
-    sub-loop
-    block-by-search-requires
-    add-base
-    loop-less
-    loop-again
-    rest-by-search-requires
-    same-length
-    returns)
+    (tie.spec Inv-loop μ-loop loop-holds sub-loop block-by-search-requires (λ c. search needs) (λ c. search needs) loop-again
+    rest-by-search-requires same-length returns)

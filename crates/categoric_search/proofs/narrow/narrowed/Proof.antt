@@ -15,16 +15,14 @@ use Rattle.categoric_search.proofs.narrow.narrowed.Statement.{statement
 use Rattle.categoric_search.proofs.narrow.narrowed.Tie as tie
 
 abbrev Inv-loop : tie.InvT-loop
-Inv-loop keys count result₀ i₀ result i = Filling (pos 0) (λ k. getD keys k (pos 0)) 256 count i result × ((k : ℕ) → i ≤ k → k < 256 → getD result k (pos 0) ≡ pos 2147483647)
+Inv-loop keys count result₀ i₀ result i =
+    Filling (pos 0) (λ k. getD keys k (pos 0)) 256 count i result × ((k : ℕ) → i ≤ k → k < 256 → getD result k (pos 0) ≡ pos 2147483647)
 
 abbrev μ-loop : tie.MeasureT-loop
 μ-loop keys count result₀ i₀ result i = count - i
 
 loop-holds : tie.Need-loop-holds Inv-loop μ-loop
 loop-holds c = (filling-start (search needs), λ k h q. getD-replicate 256 k (pos 2147483647) (pos 0) q)
-
-mul-result : tie.Need-mul-result Inv-loop μ-loop
-mul-result c = search needs
 
 element-copy-out-result : tie.Need-element-copy-out-result Inv-loop μ-loop
 element-copy-out-result c = search needs
@@ -34,19 +32,11 @@ cast-result c =
     let l = c .before .before in
     let s = l .before in
     let a = s .args in
-    subst (SFits w32) (sym (toZ-ofZ w64 _ (record { sfits = c .result .given }))) (near-fits _ (they-are-near (a .keys .now) (a .count) (s .pre .1) (l .loop .i) (c .before .loop-test .taken)))
-
-mul-result-2 : tie.Need-mul-result-2 Inv-loop μ-loop
-mul-result-2 c = search needs
+    subst (SFits w32) (sym (toZ-ofZ w64 _ (record { sfits = c .result .given })))
+    (near-fits _ (they-are-near (a .keys .now) (a .count) (s .pre .1) (l .loop .i) (c .before .loop-test .taken)))
 
 array-set-from-result : tie.Need-array-set-from-result Inv-loop μ-loop
 array-set-from-result c = search needs
-
-add-i : tie.Need-add-i Inv-loop μ-loop
-add-i c = search needs
-
-loop-less : tie.Need-loop-less Inv-loop μ-loop
-loop-less c = search needs
 
 loop-again : tie.Need-loop-again Inv-loop μ-loop
 loop-again c =
@@ -69,16 +59,5 @@ returns c =
 pub narrowed-spec : {M : Type 1} → statement M
 narrowed-spec =
     tie.close
-    (tie.spec
-    Inv-loop
-    μ-loop
-    loop-holds
-    mul-result
-    element-copy-out-result
-    cast-result
-    mul-result-2
-    array-set-from-result
-    add-i
-    loop-less
-    loop-again
-    returns)
+    (tie.spec Inv-loop μ-loop loop-holds (λ c. search needs) element-copy-out-result cast-result (λ c. search needs) array-set-from-result
+    (λ c. search needs) (λ c. search needs) loop-again returns)

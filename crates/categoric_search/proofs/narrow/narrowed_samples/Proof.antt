@@ -23,29 +23,19 @@ abbrev μ-loop : tie.MeasureT-loop
 loop-holds : tie.Need-loop-holds Inv-loop μ-loop
 loop-holds c = filling-start (search needs)
 
-mul-narrowed-sample : tie.Need-mul-narrowed-sample Inv-loop μ-loop
-mul-narrowed-sample c = search needs
-
 array-read-narrowed-sample : tie.Need-array-read-narrowed-sample Inv-loop μ-loop
 array-read-narrowed-sample c = search needs
 
 narrowed-sample-requires : tie.Need-narrowed-sample-requires Inv-loop μ-loop
 narrowed-sample-requires c κs = search needs
 
-mul-result : tie.Need-mul-result Inv-loop μ-loop
-mul-result c = search needs
-
 array-set-from-result : tie.Need-array-set-from-result Inv-loop μ-loop
 array-set-from-result c = search needs
 
-add-i : tie.Need-add-i Inv-loop μ-loop
-add-i c = search needs
-
-loop-less : tie.Need-loop-less Inv-loop μ-loop
-loop-less c = search needs
-
 loop-again : tie.Need-loop-again Inv-loop μ-loop
-loop-again c = filling-turn (c .before .before .loop .inv) (omega arith) (omega arith) (toZ-ofZ w32 _ (record { sfits = c .narrowed-sample .ok }) ∙ c .narrowed-sample .ensures)
+loop-again c =
+    filling-turn (c .before .before .loop .inv) (omega arith) (omega arith)
+    (toZ-ofZ w32 _ (record { sfits = c .narrowed-sample .ok }) ∙ c .narrowed-sample .ensures)
 
 returns : tie.Need-returns Inv-loop μ-loop
 returns c = filling-end (c .before .loop .inv) (omega arith)
@@ -53,16 +43,5 @@ returns c = filling-end (c .before .loop .inv) (omega arith)
 pub narrowed-samples-spec : {M : Type 1} → statement M
 narrowed-samples-spec =
     tie.close
-    (tie.spec
-    Inv-loop
-    μ-loop
-    loop-holds
-    mul-narrowed-sample
-    array-read-narrowed-sample
-    narrowed-sample-requires
-    mul-result
-    array-set-from-result
-    add-i
-    loop-less
-    loop-again
-    returns)
+    (tie.spec Inv-loop μ-loop loop-holds (λ c. search needs) array-read-narrowed-sample narrowed-sample-requires (λ c. search needs)
+    array-set-from-result (λ c. search needs) (λ c. search needs) loop-again returns)

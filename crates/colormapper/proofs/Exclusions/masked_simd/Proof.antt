@@ -20,14 +20,8 @@ abbrev μ-loop : tie.MeasureT-loop
 loop-holds : tie.Need-loop-holds Inv-loop μ-loop
 loop-holds c = storing-start
 
-mul-masked : tie.Need-mul-masked Inv-loop μ-loop
-mul-masked c = search needs
-
 array-read-masked : tie.Need-array-read-masked Inv-loop μ-loop
 array-read-masked c = search needs
-
-mul-masked-2 : tie.Need-mul-masked-2 Inv-loop μ-loop
-mul-masked-2 c = search needs
 
 array-read-masked-2 : tie.Need-array-read-masked-2 Inv-loop μ-loop
 array-read-masked-2 c = search needs
@@ -35,17 +29,8 @@ array-read-masked-2 c = search needs
 masked-requires : tie.Need-masked-requires Inv-loop μ-loop
 masked-requires c κs = search needs
 
-mul-result : tie.Need-mul-result Inv-loop μ-loop
-mul-result c = search needs
-
 array-write-result : tie.Need-array-write-result Inv-loop μ-loop
 array-write-result c = search needs
-
-add-i : tie.Need-add-i Inv-loop μ-loop
-add-i c = search needs
-
-loop-less : tie.Need-loop-less Inv-loop μ-loop
-loop-less c = search needs
 
 loop-again : tie.Need-loop-again Inv-loop μ-loop
 loop-again c = storing-turn (c .before .before .loop .inv) (omega arith) (omega arith) (c .masked .ensures)
@@ -56,18 +41,5 @@ returns c = lanes-stored (c .before .loop .inv) (omega arith)
 pub masked-simd-spec : {M : Type 1} → statement M
 masked-simd-spec =
     tie.close
-    (tie.spec
-    Inv-loop
-    μ-loop
-    loop-holds
-    mul-masked
-    array-read-masked
-    mul-masked-2
-    array-read-masked-2
-    masked-requires
-    mul-result
-    array-write-result
-    add-i
-    loop-less
-    loop-again
-    returns)
+    (tie.spec Inv-loop μ-loop loop-holds (λ c. search needs) array-read-masked (λ c. search needs) array-read-masked-2 masked-requires
+    (λ c. search needs) array-write-result (λ c. search needs) (λ c. search needs) loop-again returns)

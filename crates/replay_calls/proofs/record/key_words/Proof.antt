@@ -22,26 +22,14 @@ abbrev μ-loop : tie.MeasureT-loop
 loop-holds : tie.Need-loop-holds Inv-loop μ-loop
 loop-holds c = filling-start (search needs)
 
-mul-low : tie.Need-mul-low Inv-loop μ-loop
-mul-low c = search needs
-
 array-copy-out-low : tie.Need-array-copy-out-low Inv-loop μ-loop
 array-copy-out-low c = search needs
 
 low-requires : tie.Need-low-requires Inv-loop μ-loop
 low-requires c κs = search needs
 
-mul-words : tie.Need-mul-words Inv-loop μ-loop
-mul-words c = search needs
-
 array-write-words : tie.Need-array-write-words Inv-loop μ-loop
 array-write-words c = search needs
-
-add-i : tie.Need-add-i Inv-loop μ-loop
-add-i c = search needs
-
-loop-less : tie.Need-loop-less Inv-loop μ-loop
-loop-less c = search needs
 
 loop-again : tie.Need-loop-again Inv-loop μ-loop
 loop-again c =
@@ -57,16 +45,5 @@ returns c = filled (c .before .loop .inv) (omega arith)
 pub key-words-spec : {M : Type 1} → statement M
 key-words-spec =
     tie.close
-    (tie.spec
-    Inv-loop
-    μ-loop
-    loop-holds
-    mul-low
-    array-copy-out-low
-    low-requires
-    mul-words
-    array-write-words
-    add-i
-    loop-less
-    loop-again
-    returns)
+    (tie.spec Inv-loop μ-loop loop-holds (λ c. search needs) array-copy-out-low low-requires (λ c. search needs) array-write-words
+    (λ c. search needs) (λ c. search needs) loop-again returns)

@@ -6,26 +6,11 @@ use borrow.Author.Needs.{needs}
 use Rattle.replay_calls.proofs.record.with_categories.Statement.{statement}
 use Rattle.replay_calls.proofs.record.with_categories.Tie as tie
 
-key-words-requires : tie.Need-key-words-requires
-key-words-requires c κs = search needs
-
-slice-aggregate-put : tie.Need-slice-aggregate-put
-slice-aggregate-put c = search needs
-
-put-requires : tie.Need-put-requires
-put-requires c κs = search needs
-
-add-put : tie.Need-add-put
-add-put c = search needs
-
 slice-aggregate-put-2 : tie.Need-slice-aggregate-put-2
 slice-aggregate-put-2 c = search needs
 
 put-requires-2 : tie.Need-put-requires-2
 put-requires-2 c κs = omega (arith, slice-aggregate-put-2 c)
-
-add-put-2 : tie.Need-add-put-2
-add-put-2 c = search needs
 
 slice-aggregate-put-3 : tie.Need-slice-aggregate-put-3
 slice-aggregate-put-3 c = search needs
@@ -43,14 +28,5 @@ returns c =
 pub with-categories-spec : {M : Type 1} → statement M
 with-categories-spec =
     tie.close
-    (tie.spec
-    key-words-requires
-    slice-aggregate-put
-    put-requires
-    add-put
-    slice-aggregate-put-2
-    put-requires-2
-    add-put-2
-    slice-aggregate-put-3
-    put-requires-3
-    returns)
+    (tie.spec (λ c κs. search needs) (λ c. search needs) (λ c κs. search needs) (λ c. search needs) slice-aggregate-put-2 put-requires-2
+    (λ c. search needs) slice-aggregate-put-3 put-requires-3 returns)

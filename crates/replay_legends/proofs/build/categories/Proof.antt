@@ -7,21 +7,6 @@ use borrow.Author.Needs.{needs}
 use Rattle.replay_legends.proofs.build.categories.Statement.{statement}
 use Rattle.replay_legends.proofs.build.categories.Tie as tie
 
-keys-requires : tie.Need-keys-requires
-keys-requires c κs = search needs
-
-element-copy-out-at-most : tie.Need-element-copy-out-at-most
-element-copy-out-at-most c = search needs
-
-at-most-requires : tie.Need-at-most-requires
-at-most-requires c κs = search needs
-
-element-copy-out-if1 : tie.Need-element-copy-out-if1
-element-copy-out-if1 c = search needs
-
-palette-ramp-requires : tie.Need-palette-ramp-requires
-palette-ramp-requires c κs = search needs
-
 array-share-prefix-keys : tie.Need-array-share-prefix-keys
 array-share-prefix-keys c =
     let s5 = c .before .before .before .before .before in
@@ -29,17 +14,12 @@ array-share-prefix-keys c =
     let s8 = s7 .before in
     prefix-fits (getD (s8 .args .row .now) 10 0) (s7 .keys .result) (s5 .at-most .ensures) (search needs)
 
-slice-aggregate-create-categoric-for-value-list-from-ramp :
-    tie.Need-slice-aggregate-create-categoric-for-value-list-from-ramp
+slice-aggregate-create-categoric-for-value-list-from-ramp : tie.Need-slice-aggregate-create-categoric-for-value-list-from-ramp
 slice-aggregate-create-categoric-for-value-list-from-ramp c =
     let s6 = c .before .before .before .before .before .before in
     let s8 = s6 .before .before in
     let s9 = s8 .before in
     prefix-long (getD (s9 .args .row .now) 10 0) (s8 .keys .result) (s6 .at-most .ensures) (search needs)
-
-create-categoric-for-value-list-from-ramp-requires :
-    tie.Need-create-categoric-for-value-list-from-ramp-requires
-create-categoric-for-value-list-from-ramp-requires c κs = search needs
 
 returns : tie.Need-returns
 returns c =
@@ -49,24 +29,15 @@ returns c =
     let s9 = s7 .before .before in
     let s10 = s9 .before in
     c .create-categoric-for-value-list-from-ramp .ensures
-    ∙ categories-palette (s10 .args .row .now) (s10 .args .config) (s5 .if1 .taken) (ap₂ take (s7 .at-most .ensures) (s9 .keys .ensures)) (s4 .palette-ramp .ensures)
-
-words-at-requires : tie.Need-words-at-requires
-words-at-requires c κs = search needs
-
-element-copy-out-at-most-2 : tie.Need-element-copy-out-at-most-2
-element-copy-out-at-most-2 c = search needs
-
-at-most-requires-2 : tie.Need-at-most-requires-2
-at-most-requires-2 c κs = search needs
+    ∙ categories-palette (s10 .args .row .now) (s10 .args .config) (s5 .if1 .taken) (ap₂ take (s7 .at-most .ensures) (s9 .keys .ensures))
+    (s4 .palette-ramp .ensures)
 
 array-share-prefix-list : tie.Need-array-share-prefix-list
 array-share-prefix-list c =
     let s8 = c .before .before .before .before .before .before .before .before in
     prefix-fits (getD (s8 .args .row .now) 2 0) (c .before .before .words-at .result) (c .at-most2 .ensures) (search needs)
 
-slice-aggregate-create-categoric-for-value-list :
-    tie.Need-slice-aggregate-create-categoric-for-value-list
+slice-aggregate-create-categoric-for-value-list : tie.Need-slice-aggregate-create-categoric-for-value-list
 slice-aggregate-create-categoric-for-value-list c =
     let s3 = c .before .before .before in
     let s9 = s3 .before .before .before .before .before .before in
@@ -79,16 +50,12 @@ array-share-prefix-keys-2 c =
     let s9 = s8 .before in
     prefix-fits (getD (s9 .args .row .now) 10 0) (s8 .keys .result) (s6 .at-most .ensures) (search needs)
 
-slice-aggregate-create-categoric-for-value-list-2 :
-    tie.Need-slice-aggregate-create-categoric-for-value-list-2
+slice-aggregate-create-categoric-for-value-list-2 : tie.Need-slice-aggregate-create-categoric-for-value-list-2
 slice-aggregate-create-categoric-for-value-list-2 c =
     let s7 = c .before .before .before .before .before .before .before in
     let s9 = s7 .before .before in
     let s10 = s9 .before in
     prefix-long (getD (s10 .args .row .now) 10 0) (s9 .keys .result) (s7 .at-most .ensures) (search needs)
-
-create-categoric-for-value-list-requires : tie.Need-create-categoric-for-value-list-requires
-create-categoric-for-value-list-requires c κs = search needs
 
 returns-2 : tie.Need-returns-2
 returns-2 c =
@@ -99,27 +66,13 @@ returns-2 c =
     let s10 = s8 .before .before in
     let s11 = s10 .before in
     c .create-categoric-for-value-list .ensures
-    ∙ categories-list (s11 .args .row .now) (s11 .args .config) (s6 .if1 .left) (s3 .at-most2 .ensures) (s5 .words-at .ensures) (ap₂ take (s8 .at-most .ensures) (s10 .keys .ensures))
+    ∙ categories-list (s11 .args .row .now) (s11 .args .config) (s6 .if1 .left) (s3 .at-most2 .ensures) (s5 .words-at .ensures)
+    (ap₂ take (s8 .at-most .ensures) (s10 .keys .ensures))
 
 pub categories-spec : {M : Type 1} → statement M
 categories-spec =
     tie.close
-    (tie.spec
-    keys-requires
-    element-copy-out-at-most
-    at-most-requires
-    element-copy-out-if1
-    palette-ramp-requires
-    array-share-prefix-keys
-    slice-aggregate-create-categoric-for-value-list-from-ramp
-    create-categoric-for-value-list-from-ramp-requires
-    returns
-    words-at-requires
-    element-copy-out-at-most-2
-    at-most-requires-2
-    array-share-prefix-list
-    slice-aggregate-create-categoric-for-value-list
-    array-share-prefix-keys-2
-    slice-aggregate-create-categoric-for-value-list-2
-    create-categoric-for-value-list-requires
-    returns-2)
+    (tie.spec (λ c κs. search needs) (λ c. search needs) (λ c κs. search needs) (λ c. search needs) (λ c κs. search needs) array-share-prefix-keys
+    slice-aggregate-create-categoric-for-value-list-from-ramp (λ c κs. search needs) returns (λ c κs. search needs) (λ c. search needs)
+    (λ c κs. search needs) array-share-prefix-list slice-aggregate-create-categoric-for-value-list array-share-prefix-keys-2
+    slice-aggregate-create-categoric-for-value-list-2 (λ c κs. search needs) returns-2)

@@ -7,39 +7,6 @@ use borrow.Author.Needs.{needs}
 use Rattle.replay_legends.proofs.build.equal_bands.Statement.{statement}
 use Rattle.replay_legends.proofs.build.equal_bands.Tie as tie
 
-element-copy-out-float : tie.Need-element-copy-out-float
-element-copy-out-float c = search needs
-
-float-requires : tie.Need-float-requires
-float-requires c κs = search needs
-
-add-float : tie.Need-add-float
-add-float c = search needs
-
-mul-float : tie.Need-mul-float
-mul-float c = search needs
-
-element-copy-out-float-2 : tie.Need-element-copy-out-float-2
-element-copy-out-float-2 c = search needs
-
-float-requires-2 : tie.Need-float-requires-2
-float-requires-2 c κs = search needs
-
-element-copy-out-wide : tie.Need-element-copy-out-wide
-element-copy-out-wide c = search needs
-
-wide-requires : tie.Need-wide-requires
-wide-requires c κs = search needs
-
-element-copy-out-if1 : tie.Need-element-copy-out-if1
-element-copy-out-if1 c = search needs
-
-palette-ramp-requires : tie.Need-palette-ramp-requires
-palette-ramp-requires c κs = search needs
-
-create-banded-from-ramp-requires : tie.Need-create-banded-from-ramp-requires
-create-banded-from-ramp-requires c κs = search needs
-
 returns : tie.Need-returns
 returns c =
     let s3 = c .before .before .before in
@@ -49,16 +16,8 @@ returns c =
     let s10 = s8 .before .before in
     let s12 = s10 .before .before in
     c .create-banded-from-ramp .ensures
-    ∙ equal-palette (s12 .args .row .now) (s12 .args .config) (s4 .if1 .taken) (s6 .wide .ensures) (s10 .float .ensures) (s8 .float2 .ensures) (s3 .palette-ramp .ensures)
-
-words-at-requires : tie.Need-words-at-requires
-words-at-requires c κs = search needs
-
-element-copy-out-at-most : tie.Need-element-copy-out-at-most
-element-copy-out-at-most c = search needs
-
-at-most-requires : tie.Need-at-most-requires
-at-most-requires c κs = search needs
+    ∙ equal-palette (s12 .args .row .now) (s12 .args .config) (s4 .if1 .taken) (s6 .wide .ensures) (s10 .float .ensures) (s8 .float2 .ensures)
+    (s3 .palette-ramp .ensures)
 
 array-share-prefix-list : tie.Need-array-share-prefix-list
 array-share-prefix-list c =
@@ -71,9 +30,6 @@ slice-aggregate-create-banded c =
     let s12 = s3 .before .before .before .before .before .before .before .before .before in
     prefix-long (getD (s12 .args .row .now) 2 0) (s3 .words-at .result) (c .before .at-most .ensures) (search needs)
 
-create-banded-requires : tie.Need-create-banded-requires
-create-banded-requires c κs = search needs
-
 returns-2 : tie.Need-returns-2
 returns-2 c =
     let s4 = c .before .before .before .before in
@@ -83,28 +39,12 @@ returns-2 c =
     let s11 = s9 .before .before in
     let s13 = s11 .before .before in
     c .create-banded .ensures
-    ∙ equal-list (s13 .args .row .now) (s13 .args .config) (s5 .if1 .left) (c .before .before .at-most .ensures) (s4 .words-at .ensures) (s7 .wide .ensures) (s11 .float .ensures) (s9 .float2 .ensures)
+    ∙ equal-list (s13 .args .row .now) (s13 .args .config) (s5 .if1 .left) (c .before .before .at-most .ensures) (s4 .words-at .ensures) (s7 .wide .ensures)
+    (s11 .float .ensures) (s9 .float2 .ensures)
 
 pub equal-bands-spec : {M : Type 1} → statement M
 equal-bands-spec =
     tie.close
-    (tie.spec
-    element-copy-out-float
-    float-requires
-    add-float
-    mul-float
-    element-copy-out-float-2
-    float-requires-2
-    element-copy-out-wide
-    wide-requires
-    element-copy-out-if1
-    palette-ramp-requires
-    create-banded-from-ramp-requires
-    returns
-    words-at-requires
-    element-copy-out-at-most
-    at-most-requires
-    array-share-prefix-list
-    slice-aggregate-create-banded
-    create-banded-requires
-    returns-2)
+    (tie.spec (λ c. search needs) (λ c κs. search needs) (λ c. search needs) (λ c. search needs) (λ c. search needs) (λ c κs. search needs)
+    (λ c. search needs) (λ c κs. search needs) (λ c. search needs) (λ c κs. search needs) (λ c κs. search needs) returns (λ c κs. search needs)
+    (λ c. search needs) (λ c κs. search needs) array-share-prefix-list slice-aggregate-create-banded (λ c κs. search needs) returns-2)

@@ -7,49 +7,14 @@ use borrow.Author.Needs.{needs}
 use Rattle.replay_legends.proofs.build.linear.Statement.{statement}
 use Rattle.replay_legends.proofs.build.linear.Tie as tie
 
-element-copy-out-float : tie.Need-element-copy-out-float
-element-copy-out-float c = search needs
-
-float-requires : tie.Need-float-requires
-float-requires c κs = search needs
-
-add-float : tie.Need-add-float
-add-float c = search needs
-
-mul-float : tie.Need-mul-float
-mul-float c = search needs
-
-element-copy-out-float-2 : tie.Need-element-copy-out-float-2
-element-copy-out-float-2 c = search needs
-
-float-requires-2 : tie.Need-float-requires-2
-float-requires-2 c κs = search needs
-
-element-copy-out-if1 : tie.Need-element-copy-out-if1
-element-copy-out-if1 c = search needs
-
-palette-ramp-requires : tie.Need-palette-ramp-requires
-palette-ramp-requires c κs = search needs
-
-create-linear-from-ramp-requires : tie.Need-create-linear-from-ramp-requires
-create-linear-from-ramp-requires c κs = search needs
-
 returns : tie.Need-returns
 returns c =
     let s4 = c .before .before .before .before in
     let s6 = s4 .before .before in
     let s8 = s6 .before .before in
     c .create-linear-from-ramp .ensures
-    ∙ linear-palette (s8 .args .row .now) (s8 .args .config) (c .before .before .if1 .taken) (s6 .float .ensures) (s4 .float2 .ensures) (c .before .palette-ramp .ensures)
-
-words-at-requires : tie.Need-words-at-requires
-words-at-requires c κs = search needs
-
-element-copy-out-at-most : tie.Need-element-copy-out-at-most
-element-copy-out-at-most c = search needs
-
-at-most-requires : tie.Need-at-most-requires
-at-most-requires c κs = search needs
+    ∙ linear-palette (s8 .args .row .now) (s8 .args .config) (c .before .before .if1 .taken) (s6 .float .ensures) (s4 .float2 .ensures)
+    (c .before .palette-ramp .ensures)
 
 array-share-prefix-list : tie.Need-array-share-prefix-list
 array-share-prefix-list c =
@@ -62,9 +27,6 @@ slice-aggregate-create-linear c =
     let s10 = s3 .before .before .before .before .before .before .before in
     prefix-long (getD (s10 .args .row .now) 2 0) (s3 .words-at .result) (c .before .at-most .ensures) (search needs)
 
-create-linear-requires : tie.Need-create-linear-requires
-create-linear-requires c κs = search needs
-
 returns-2 : tie.Need-returns-2
 returns-2 c =
     let s4 = c .before .before .before .before in
@@ -73,26 +35,12 @@ returns-2 c =
     let s9 = s7 .before .before in
     let s11 = s9 .before .before in
     c .create-linear .ensures
-    ∙ linear-list (s11 .args .row .now) (s11 .args .config) (s5 .if1 .left) (c .before .before .at-most .ensures) (s4 .words-at .ensures) (s9 .float .ensures) (s7 .float2 .ensures)
+    ∙ linear-list (s11 .args .row .now) (s11 .args .config) (s5 .if1 .left) (c .before .before .at-most .ensures) (s4 .words-at .ensures)
+    (s9 .float .ensures) (s7 .float2 .ensures)
 
 pub linear-spec : {M : Type 1} → statement M
 linear-spec =
     tie.close
-    (tie.spec
-    element-copy-out-float
-    float-requires
-    add-float
-    mul-float
-    element-copy-out-float-2
-    float-requires-2
-    element-copy-out-if1
-    palette-ramp-requires
-    create-linear-from-ramp-requires
-    returns
-    words-at-requires
-    element-copy-out-at-most
-    at-most-requires
-    array-share-prefix-list
-    slice-aggregate-create-linear
-    create-linear-requires
-    returns-2)
+    (tie.spec (λ c. search needs) (λ c κs. search needs) (λ c. search needs) (λ c. search needs) (λ c. search needs) (λ c κs. search needs)
+    (λ c. search needs) (λ c κs. search needs) (λ c κs. search needs) returns (λ c κs. search needs) (λ c. search needs) (λ c κs. search needs)
+    array-share-prefix-list slice-aggregate-create-linear (λ c κs. search needs) returns-2)

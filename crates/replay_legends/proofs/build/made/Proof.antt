@@ -7,36 +7,6 @@ use borrow.Author.Needs.{needs}
 use Rattle.replay_legends.proofs.build.made.Statement.{statement}
 use Rattle.replay_legends.proofs.build.made.Tie as tie
 
-settings-requires : tie.Need-settings-requires
-settings-requires c κs = search needs
-
-element-copy-out-match : tie.Need-element-copy-out-match
-element-copy-out-match c = search needs
-
-linear-requires : tie.Need-linear-requires
-linear-requires c κs = search needs
-
-equal-bands-requires : tie.Need-equal-bands-requires
-equal-bands-requires c κs = search needs
-
-manual-ranges-requires : tie.Need-manual-ranges-requires
-manual-ranges-requires c κs = search needs
-
-bands-given-requires : tie.Need-bands-given-requires
-bands-given-requires c κs = search needs
-
-categories-requires : tie.Need-categories-requires
-categories-requires c κs = search needs
-
-category-range-requires : tie.Need-category-range-requires
-category-range-requires c κs = search needs
-
-linear-stored-requires : tie.Need-linear-stored-requires
-linear-stored-requires c κs = search needs
-
-categories-stored-requires : tie.Need-categories-stored-requires
-categories-stored-requires c κs = search needs
-
 returns : tie.Need-returns
 returns c =
     let s3 = c .before .before .before in
@@ -96,22 +66,6 @@ returns-8 c =
 pub made-spec : {M : Type 1} → statement M
 made-spec =
     tie.close
-    (tie.spec
-    settings-requires
-    element-copy-out-match
-    linear-requires
-    equal-bands-requires
-    manual-ranges-requires
-    bands-given-requires
-    categories-requires
-    category-range-requires
-    linear-stored-requires
-    categories-stored-requires
-    returns
-    returns-2
-    returns-3
-    returns-4
-    returns-5
-    returns-6
-    returns-7
-    returns-8)
+    (tie.spec (λ c κs. search needs) (λ c. search needs) (λ c κs. search needs) (λ c κs. search needs) (λ c κs. search needs) (λ c κs. search needs)
+    (λ c κs. search needs) (λ c κs. search needs) (λ c κs. search needs) (λ c κs. search needs) returns returns-2 returns-3 returns-4 returns-5
+    returns-6 returns-7 returns-8)

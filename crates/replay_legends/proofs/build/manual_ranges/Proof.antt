@@ -7,19 +7,6 @@ use borrow.Author.Needs.{needs}
 use Rattle.replay_legends.proofs.build.manual_ranges.Statement.{statement}
 use Rattle.replay_legends.proofs.build.manual_ranges.Tie as tie
 
-ranges-requires : tie.Need-ranges-requires
-ranges-requires c κs = search needs
-
-element-copy-out-if1 : tie.Need-element-copy-out-if1
-element-copy-out-if1 c = search needs
-
-palette-ramp-requires : tie.Need-palette-ramp-requires
-palette-ramp-requires c κs = search needs
-
-create-banded-manual-ranges-from-ramp-requires :
-    tie.Need-create-banded-manual-ranges-from-ramp-requires
-create-banded-manual-ranges-from-ramp-requires c κs = search needs
-
 returns : tie.Need-returns
 returns c =
     let s3 = c .before .before .before in
@@ -28,15 +15,6 @@ returns c =
     let s7 = s6 .before in
     c .create-banded-manual-ranges-from-ramp .ensures
     ∙ manual-palette (s7 .args .row .now) (s7 .args .config) (s4 .if1 .taken) (s6 .ranges .ensures) (s3 .palette-ramp .ensures)
-
-words-at-requires : tie.Need-words-at-requires
-words-at-requires c κs = search needs
-
-element-copy-out-at-most : tie.Need-element-copy-out-at-most
-element-copy-out-at-most c = search needs
-
-at-most-requires : tie.Need-at-most-requires
-at-most-requires c κs = search needs
 
 array-share-prefix-list : tie.Need-array-share-prefix-list
 array-share-prefix-list c =
@@ -48,9 +26,6 @@ slice-aggregate-create-banded-manual-ranges c =
     let s3 = c .before .before .before in
     let s7 = s3 .before .before .before .before in
     prefix-long (getD (s7 .args .row .now) 2 0) (s3 .words-at .result) (c .before .at-most .ensures) (search needs)
-
-create-banded-manual-ranges-requires : tie.Need-create-banded-manual-ranges-requires
-create-banded-manual-ranges-requires c κs = search needs
 
 returns-2 : tie.Need-returns-2
 returns-2 c =
@@ -64,16 +39,5 @@ returns-2 c =
 pub manual-ranges-spec : {M : Type 1} → statement M
 manual-ranges-spec =
     tie.close
-    (tie.spec
-    ranges-requires
-    element-copy-out-if1
-    palette-ramp-requires
-    create-banded-manual-ranges-from-ramp-requires
-    returns
-    words-at-requires
-    element-copy-out-at-most
-    at-most-requires
-    array-share-prefix-list
-    slice-aggregate-create-banded-manual-ranges
-    create-banded-manual-ranges-requires
-    returns-2)
+    (tie.spec (λ c κs. search needs) (λ c. search needs) (λ c κs. search needs) (λ c κs. search needs) returns (λ c κs. search needs)
+    (λ c. search needs) (λ c κs. search needs) array-share-prefix-list slice-aggregate-create-banded-manual-ranges (λ c κs. search needs) returns-2)

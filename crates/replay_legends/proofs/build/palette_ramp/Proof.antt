@@ -6,18 +6,9 @@ use borrow.Author.Needs.{needs}
 use Rattle.replay_legends.proofs.build.palette_ramp.Statement.{statement}
 use Rattle.replay_legends.proofs.build.palette_ramp.Tie as tie
 
-element-copy-out-wide : tie.Need-element-copy-out-wide
-element-copy-out-wide c = search needs
-
-wide-requires : tie.Need-wide-requires
-wide-requires c κs = search needs
-
-create-for-preset-requires : tie.Need-create-for-preset-requires
-create-for-preset-requires c κs = search needs
-
 returns : tie.Need-returns
 returns c = ap (λ m. m .ramp .cmap) (c .before .create-for-preset .ensures ∙ ap rampOfPreset (c .before .before .wide .ensures))
 
 pub palette-ramp-spec : {M : Type 1} → statement M
 palette-ramp-spec =
-    tie.close (tie.spec element-copy-out-wide wide-requires create-for-preset-requires returns)
+    tie.close (tie.spec (λ c. search needs) (λ c κs. search needs) (λ c κs. search needs) returns)

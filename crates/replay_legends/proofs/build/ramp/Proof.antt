@@ -8,32 +8,11 @@ use borrow.Author.Needs.{needs}
 use Rattle.replay_legends.proofs.build.ramp.Statement.{statement}
 use Rattle.replay_legends.proofs.build.ramp.Tie as tie
 
-element-copy-out-if1 : tie.Need-element-copy-out-if1
-element-copy-out-if1 c = search needs
-
-element-copy-out-wide : tie.Need-element-copy-out-wide
-element-copy-out-wide c = search needs
-
-wide-requires : tie.Need-wide-requires
-wide-requires c κs = search needs
-
-create-for-preset-requires : tie.Need-create-for-preset-requires
-create-for-preset-requires c κs = search needs
-
 returns : tie.Need-returns
 returns c =
     let s3 = c .before .before .before in
     let s5 = s3 .before .before in
     c .create-for-preset .ensures ∙ ramp-palette (s5 .args .row .now) noSettings (s3 .if1 .taken) (c .before .wide .ensures)
-
-words-at-requires : tie.Need-words-at-requires
-words-at-requires c κs = search needs
-
-element-copy-out-at-most : tie.Need-element-copy-out-at-most
-element-copy-out-at-most c = search needs
-
-at-most-requires : tie.Need-at-most-requires
-at-most-requires c κs = search needs
 
 array-share-prefix-list : tie.Need-array-share-prefix-list
 array-share-prefix-list c =
@@ -46,9 +25,6 @@ slice-aggregate-create c =
     let s6 = s3 .before .before .before in
     prefix-long (getD (s6 .args .row .now) 2 0) (s3 .words-at .result) (c .before .at-most .ensures) (search needs)
 
-create-requires : tie.Need-create-requires
-create-requires c κs = search needs
-
 returns-2 : tie.Need-returns-2
 returns-2 c =
     let s4 = c .before .before .before .before in
@@ -59,16 +35,5 @@ returns-2 c =
 pub ramp-spec : {M : Type 1} → statement M
 ramp-spec =
     tie.close
-    (tie.spec
-    element-copy-out-if1
-    element-copy-out-wide
-    wide-requires
-    create-for-preset-requires
-    returns
-    words-at-requires
-    element-copy-out-at-most
-    at-most-requires
-    array-share-prefix-list
-    slice-aggregate-create
-    create-requires
-    returns-2)
+    (tie.spec (λ c. search needs) (λ c. search needs) (λ c κs. search needs) (λ c κs. search needs) returns (λ c κs. search needs)
+    (λ c. search needs) (λ c κs. search needs) array-share-prefix-list slice-aggregate-create (λ c κs. search needs) returns-2)

@@ -22,17 +22,8 @@ loop-holds c = storing-start
 band-requires : tie.Need-band-requires Inv-loop μ-loop
 band-requires c κs = search needs
 
-mul-bands : tie.Need-mul-bands Inv-loop μ-loop
-mul-bands c = search needs
-
 array-set-from-bands : tie.Need-array-set-from-bands Inv-loop μ-loop
 array-set-from-bands c = search needs
-
-add-i : tie.Need-add-i Inv-loop μ-loop
-add-i c = search needs
-
-loop-less : tie.Need-loop-less Inv-loop μ-loop
-loop-less c = search needs
 
 loop-again : tie.Need-loop-again Inv-loop μ-loop
 loop-again c = storing-turn (c .before .before .loop .inv) (omega arith) (omega arith) (c .band .ensures)
@@ -43,14 +34,5 @@ returns c = storing-end (c .before .loop .inv) (omega arith)
 pub bands-spec : {M : Type 1} → statement M
 bands-spec =
     tie.close
-    (tie.spec
-    Inv-loop
-    μ-loop
-    loop-holds
-    band-requires
-    mul-bands
-    array-set-from-bands
-    add-i
-    loop-less
-    loop-again
+    (tie.spec Inv-loop μ-loop loop-holds band-requires (λ c. search needs) array-set-from-bands (λ c. search needs) (λ c. search needs) loop-again
     returns)

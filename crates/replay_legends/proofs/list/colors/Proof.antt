@@ -17,26 +17,11 @@ abbrev μ-loop : tie.MeasureT-loop
 loop-holds : tie.Need-loop-holds Inv-loop μ-loop
 loop-holds c = storing-start
 
-add-colors : tie.Need-add-colors Inv-loop μ-loop
-add-colors c = search needs
-
-mul-colors : tie.Need-mul-colors Inv-loop μ-loop
-mul-colors c = search needs
-
 element-copy-out-colors : tie.Need-element-copy-out-colors Inv-loop μ-loop
 element-copy-out-colors c = search needs
 
-mul-colors-2 : tie.Need-mul-colors-2 Inv-loop μ-loop
-mul-colors-2 c = search needs
-
 array-write-colors : tie.Need-array-write-colors Inv-loop μ-loop
 array-write-colors c = search needs
-
-add-i : tie.Need-add-i Inv-loop μ-loop
-add-i c = search needs
-
-loop-less : tie.Need-loop-less Inv-loop μ-loop
-loop-less c = search needs
 
 loop-again : tie.Need-loop-again Inv-loop μ-loop
 loop-again c = storing-turn (c .before .before .loop .inv) (omega arith) (omega arith) (refl)
@@ -47,16 +32,5 @@ returns c = storing-end (c .before .loop .inv) (omega arith)
 pub colors-spec : {M : Type 1} → statement M
 colors-spec =
     tie.close
-    (tie.spec
-    Inv-loop
-    μ-loop
-    loop-holds
-    add-colors
-    mul-colors
-    element-copy-out-colors
-    mul-colors-2
-    array-write-colors
-    add-i
-    loop-less
-    loop-again
-    returns)
+    (tie.spec Inv-loop μ-loop loop-holds (λ c. search needs) (λ c. search needs) element-copy-out-colors (λ c. search needs) array-write-colors
+    (λ c. search needs) (λ c. search needs) loop-again returns)

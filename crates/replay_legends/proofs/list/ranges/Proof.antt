@@ -23,17 +23,8 @@ loop-holds c = storing-start
 range-requires : tie.Need-range-requires Inv-loop μ-loop
 range-requires c κs = search needs
 
-mul-ranges : tie.Need-mul-ranges Inv-loop μ-loop
-mul-ranges c = search needs
-
 array-set-from-ranges : tie.Need-array-set-from-ranges Inv-loop μ-loop
 array-set-from-ranges c = search needs
-
-add-i : tie.Need-add-i Inv-loop μ-loop
-add-i c = search needs
-
-loop-less : tie.Need-loop-less Inv-loop μ-loop
-loop-less c = search needs
 
 loop-again : tie.Need-loop-again Inv-loop μ-loop
 loop-again c = storing-turn (c .before .before .loop .inv) (omega arith) (omega arith) (c .range .ensures)
@@ -50,16 +41,5 @@ returns c = let l = c .before .before .before in ranges-are (l .before .args .ro
 pub ranges-spec : {M : Type 1} → statement M
 ranges-spec =
     tie.close
-    (tie.spec
-    Inv-loop
-    μ-loop
-    loop-holds
-    range-requires
-    mul-ranges
-    array-set-from-ranges
-    add-i
-    loop-less
-    loop-again
-    element-copy-out-at-most
-    at-most-requires
-    returns)
+    (tie.spec Inv-loop μ-loop loop-holds range-requires (λ c. search needs) array-set-from-ranges (λ c. search needs) (λ c. search needs) loop-again
+    element-copy-out-at-most at-most-requires returns)

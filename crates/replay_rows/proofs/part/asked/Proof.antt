@@ -17,28 +17,17 @@ abbrev μ-loop : tie.MeasureT-loop
 loop-holds : tie.Need-loop-holds Inv-loop μ-loop
 loop-holds c = storing-start
 
-mul-words : tie.Need-mul-words Inv-loop μ-loop
-mul-words c = search needs
-
 element-copy-out-words : tie.Need-element-copy-out-words Inv-loop μ-loop
 element-copy-out-words c = search needs
-
-mul-words-2 : tie.Need-mul-words-2 Inv-loop μ-loop
-mul-words-2 c = search needs
 
 array-write-words : tie.Need-array-write-words Inv-loop μ-loop
 array-write-words c = search needs
 
-add-i : tie.Need-add-i Inv-loop μ-loop
-add-i c = search needs
-
-loop-less : tie.Need-loop-less Inv-loop μ-loop
-loop-less c = search needs
-
 loop-again : tie.Need-loop-again Inv-loop μ-loop
 loop-again c =
     let s3 = c .before .before .before in
-    storing-turn (c .before .before .loop .inv) (omega arith) (omega arith) (let z : c .before .before .loop .i ≡ 0 + c .before .before .loop .i = omega arith in
+    storing-turn (c .before .before .loop .inv) (omega arith) (omega arith)
+    (let z : c .before .before .loop .i ≡ 0 + c .before .before .loop .i = omega arith in
     ap (λ (m : ℕ). getD (s3 .args .row .now) m 0) z)
 
 returns : tie.Need-returns Inv-loop μ-loop
@@ -47,15 +36,5 @@ returns c = storing-end (c .before .loop .inv) (omega arith)
 pub asked-spec : {M : Type 1} → statement M
 asked-spec =
     tie.close
-    (tie.spec
-    Inv-loop
-    μ-loop
-    loop-holds
-    mul-words
-    element-copy-out-words
-    mul-words-2
-    array-write-words
-    add-i
-    loop-less
-    loop-again
-    returns)
+    (tie.spec Inv-loop μ-loop loop-holds (λ c. search needs) element-copy-out-words (λ c. search needs) array-write-words (λ c. search needs)
+    (λ c. search needs) loop-again returns)

@@ -16,12 +16,6 @@ abbrev μ-loop : tie.MeasureT-loop
 loop-holds : tie.Need-loop-holds Inv-loop μ-loop
 loop-holds c = filling-start (search needs)
 
-add-byte : tie.Need-add-byte Inv-loop μ-loop
-add-byte c = search needs
-
-mul-byte : tie.Need-mul-byte Inv-loop μ-loop
-mul-byte c = search needs
-
 element-copy-out-byte : tie.Need-element-copy-out-byte Inv-loop μ-loop
 element-copy-out-byte c = search needs
 
@@ -30,12 +24,6 @@ byte-requires c κs = search needs
 
 array-write-bytes : tie.Need-array-write-bytes Inv-loop μ-loop
 array-write-bytes c = search needs
-
-add-i : tie.Need-add-i Inv-loop μ-loop
-add-i c = search needs
-
-loop-less : tie.Need-loop-less Inv-loop μ-loop
-loop-less c = search needs
 
 loop-again : tie.Need-loop-again Inv-loop μ-loop
 loop-again c = filling-turn (c .before .before .before .loop .inv) (omega arith) (omega arith) (c .byte .ensures)
@@ -46,16 +34,5 @@ returns c = filled (c .before .loop .inv) (omega arith)
 pub bytes-spec : {M : Type 1} → statement M
 bytes-spec =
     tie.close
-    (tie.spec
-    Inv-loop
-    μ-loop
-    loop-holds
-    add-byte
-    mul-byte
-    element-copy-out-byte
-    byte-requires
-    array-write-bytes
-    add-i
-    loop-less
-    loop-again
-    returns)
+    (tie.spec Inv-loop μ-loop loop-holds (λ c. search needs) (λ c. search needs) element-copy-out-byte byte-requires array-write-bytes
+    (λ c. search needs) (λ c. search needs) loop-again returns)

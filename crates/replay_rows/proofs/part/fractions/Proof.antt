@@ -18,29 +18,14 @@ abbrev μ-loop : tie.MeasureT-loop
 loop-holds : tie.Need-loop-holds Inv-loop μ-loop
 loop-holds c = filling-start (search needs)
 
-add-float : tie.Need-add-float Inv-loop μ-loop
-add-float c = search needs
-
-mul-float : tie.Need-mul-float Inv-loop μ-loop
-mul-float c = search needs
-
 element-copy-out-float : tie.Need-element-copy-out-float Inv-loop μ-loop
 element-copy-out-float c = search needs
 
 float-requires : tie.Need-float-requires Inv-loop μ-loop
 float-requires c κs = search needs
 
-mul-floats : tie.Need-mul-floats Inv-loop μ-loop
-mul-floats c = search needs
-
 array-write-floats : tie.Need-array-write-floats Inv-loop μ-loop
 array-write-floats c = search needs
-
-add-i : tie.Need-add-i Inv-loop μ-loop
-add-i c = search needs
-
-loop-less : tie.Need-loop-less Inv-loop μ-loop
-loop-less c = search needs
 
 loop-again : tie.Need-loop-again Inv-loop μ-loop
 loop-again c = filling-turn (c .before .before .before .loop .inv) (omega arith) (omega arith) (c .float .ensures)
@@ -51,17 +36,5 @@ returns c = filled (c .before .loop .inv) (omega arith)
 pub fractions-spec : {M : Type 1} → statement M
 fractions-spec =
     tie.close
-    (tie.spec
-    Inv-loop
-    μ-loop
-    loop-holds
-    add-float
-    mul-float
-    element-copy-out-float
-    float-requires
-    mul-floats
-    array-write-floats
-    add-i
-    loop-less
-    loop-again
-    returns)
+    (tie.spec Inv-loop μ-loop loop-holds (λ c. search needs) (λ c. search needs) element-copy-out-float float-requires (λ c. search needs)
+    array-write-floats (λ c. search needs) (λ c. search needs) loop-again returns)

@@ -12,7 +12,8 @@ use Rattle.replay_rows.proofs.part.put.Statement.{statement}
 use Rattle.replay_rows.proofs.part.put.Tie as tie
 
 abbrev Inv-loop : tie.InvT-loop
-Inv-loop from words n result₀ i₀ result i = (i ≤ n) × (n ≡ length words) × (length result ≡ 1680) × (length result₀ ≡ 1680) × (result ≡ putAt from (take i words) result₀)
+Inv-loop from words n result₀ i₀ result i =
+    (i ≤ n) × (n ≡ length words) × (length result ≡ 1680) × (length result₀ ≡ 1680) × (result ≡ putAt from (take i words) result₀)
 
 abbrev μ-loop : tie.MeasureT-loop
 μ-loop from words n result₀ i₀ result i = n - i
@@ -20,32 +21,23 @@ abbrev μ-loop : tie.MeasureT-loop
 loop-holds : tie.Need-loop-holds Inv-loop μ-loop
 loop-holds c = (omega arith, refl, search needs, search needs, over-none (c .args .from) (c .args .words .now) (c .args .row))
 
-mul-result : tie.Need-mul-result Inv-loop μ-loop
-mul-result c = search needs
-
 shared-slice-read-result : tie.Need-shared-slice-read-result Inv-loop μ-loop
 shared-slice-read-result c = search needs
-
-add-result : tie.Need-add-result Inv-loop μ-loop
-add-result c = search needs
-
-mul-result-2 : tie.Need-mul-result-2 Inv-loop μ-loop
-mul-result-2 c = search needs
 
 array-write-result : tie.Need-array-write-result Inv-loop μ-loop
 array-write-result c = search needs
 
-add-i : tie.Need-add-i Inv-loop μ-loop
-add-i c = search needs
-
-loop-less : tie.Need-loop-less Inv-loop μ-loop
-loop-less c = search needs
-
 loop-again : tie.Need-loop-again Inv-loop μ-loop
 loop-again c =
     let l = c .before .before in
-    let a = l .before .args in
-    (omega arith, l .loop .inv .1, search needs, l .loop .inv .3, ap (λ (r : List ℕ). set r (a .from + l .loop .i) (getD (a .words .now) (l .loop .i) 0)) (l .loop .inv .4) ∙ over-more (a .from) (l .loop .i) (a .words .now) (a .row) (omega arith) (omega arith))
+    let a = l .before .args in (
+      omega arith,
+      l .loop .inv .1,
+      search needs,
+      l .loop .inv .3,
+      ap (λ (r : List ℕ). set r (a .from + l .loop .i) (getD (a .words .now) (l .loop .i) 0))
+          (l .loop .inv .4) ∙ over-more (a .from) (l .loop .i) (a .words .now) (a .row) (omega arith) (omega arith),
+    )
 
 returns : tie.Need-returns Inv-loop μ-loop
 returns c =
@@ -57,16 +49,5 @@ returns c =
 pub put-spec : {M : Type 1} → statement M
 put-spec =
     tie.close
-    (tie.spec
-    Inv-loop
-    μ-loop
-    loop-holds
-    mul-result
-    shared-slice-read-result
-    add-result
-    mul-result-2
-    array-write-result
-    add-i
-    loop-less
-    loop-again
-    returns)
+    (tie.spec Inv-loop μ-loop loop-holds (λ c. search needs) shared-slice-read-result (λ c. search needs) (λ c. search needs) array-write-result
+    (λ c. search needs) (λ c. search needs) loop-again returns)

@@ -18,29 +18,14 @@ abbrev μ-loop : tie.MeasureT-loop
 loop-holds : tie.Need-loop-holds Inv-loop μ-loop
 loop-holds c = filling-start (search needs)
 
-add-short : tie.Need-add-short Inv-loop μ-loop
-add-short c = search needs
-
-mul-short : tie.Need-mul-short Inv-loop μ-loop
-mul-short c = search needs
-
 element-copy-out-short : tie.Need-element-copy-out-short Inv-loop μ-loop
 element-copy-out-short c = search needs
 
 short-requires : tie.Need-short-requires Inv-loop μ-loop
 short-requires c κs = search needs
 
-mul-shorts : tie.Need-mul-shorts Inv-loop μ-loop
-mul-shorts c = search needs
-
 array-set-from-shorts : tie.Need-array-set-from-shorts Inv-loop μ-loop
 array-set-from-shorts c = search needs
-
-add-i : tie.Need-add-i Inv-loop μ-loop
-add-i c = search needs
-
-loop-less : tie.Need-loop-less Inv-loop μ-loop
-loop-less c = search needs
 
 loop-again : tie.Need-loop-again Inv-loop μ-loop
 loop-again c = filling-turn (c .before .before .before .loop .inv) (omega arith) (omega arith) (search needs)
@@ -51,17 +36,5 @@ returns c = filled (c .before .loop .inv) (omega arith)
 pub shorts-spec : {M : Type 1} → statement M
 shorts-spec =
     tie.close
-    (tie.spec
-    Inv-loop
-    μ-loop
-    loop-holds
-    add-short
-    mul-short
-    element-copy-out-short
-    short-requires
-    mul-shorts
-    array-set-from-shorts
-    add-i
-    loop-less
-    loop-again
-    returns)
+    (tie.spec Inv-loop μ-loop loop-holds (λ c. search needs) (λ c. search needs) element-copy-out-short short-requires (λ c. search needs)
+    array-set-from-shorts (λ c. search needs) (λ c. search needs) loop-again returns)

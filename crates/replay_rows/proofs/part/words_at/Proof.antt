@@ -17,26 +17,11 @@ abbrev μ-loop : tie.MeasureT-loop
 loop-holds : tie.Need-loop-holds Inv-loop μ-loop
 loop-holds c = filling-start (search needs)
 
-add-words : tie.Need-add-words Inv-loop μ-loop
-add-words c = search needs
-
-mul-words : tie.Need-mul-words Inv-loop μ-loop
-mul-words c = search needs
-
 element-copy-out-words : tie.Need-element-copy-out-words Inv-loop μ-loop
 element-copy-out-words c = search needs
 
-mul-words-2 : tie.Need-mul-words-2 Inv-loop μ-loop
-mul-words-2 c = search needs
-
 array-write-words : tie.Need-array-write-words Inv-loop μ-loop
 array-write-words c = search needs
-
-add-i : tie.Need-add-i Inv-loop μ-loop
-add-i c = search needs
-
-loop-less : tie.Need-loop-less Inv-loop μ-loop
-loop-less c = search needs
 
 loop-again : tie.Need-loop-again Inv-loop μ-loop
 loop-again c = filling-turn (c .before .before .loop .inv) (omega arith) (omega arith) (refl)
@@ -47,16 +32,5 @@ returns c = filled (c .before .loop .inv) (omega arith)
 pub words-at-spec : {M : Type 1} → statement M
 words-at-spec =
     tie.close
-    (tie.spec
-    Inv-loop
-    μ-loop
-    loop-holds
-    add-words
-    mul-words
-    element-copy-out-words
-    mul-words-2
-    array-write-words
-    add-i
-    loop-less
-    loop-again
-    returns)
+    (tie.spec Inv-loop μ-loop loop-holds (λ c. search needs) (λ c. search needs) element-copy-out-words (λ c. search needs) array-write-words
+    (λ c. search needs) (λ c. search needs) loop-again returns)

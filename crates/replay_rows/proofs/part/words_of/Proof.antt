@@ -16,35 +16,14 @@ abbrev μ-loop : tie.MeasureT-loop
 loop-holds : tie.Need-loop-holds Inv-loop μ-loop
 loop-holds c = filling-start (search needs)
 
-mul-word : tie.Need-mul-word Inv-loop μ-loop
-mul-word c = search needs
-
 element-copy-out-word : tie.Need-element-copy-out-word Inv-loop μ-loop
 element-copy-out-word c = search needs
-
-mul-word-2 : tie.Need-mul-word-2 Inv-loop μ-loop
-mul-word-2 c = search needs
-
-add-word : tie.Need-add-word Inv-loop μ-loop
-add-word c = search needs
 
 element-copy-out-word-2 : tie.Need-element-copy-out-word-2 Inv-loop μ-loop
 element-copy-out-word-2 c = search needs
 
-mul-word-3 : tie.Need-mul-word-3 Inv-loop μ-loop
-mul-word-3 c = search needs
-
-add-word-2 : tie.Need-add-word-2 Inv-loop μ-loop
-add-word-2 c = search needs
-
 element-copy-out-word-3 : tie.Need-element-copy-out-word-3 Inv-loop μ-loop
 element-copy-out-word-3 c = search needs
-
-mul-word-4 : tie.Need-mul-word-4 Inv-loop μ-loop
-mul-word-4 c = search needs
-
-add-word-3 : tie.Need-add-word-3 Inv-loop μ-loop
-add-word-3 c = search needs
 
 element-copy-out-word-4 : tie.Need-element-copy-out-word-4 Inv-loop μ-loop
 element-copy-out-word-4 c = search needs
@@ -52,20 +31,13 @@ element-copy-out-word-4 c = search needs
 word-requires : tie.Need-word-requires Inv-loop μ-loop
 word-requires c κs = search needs
 
-mul-words : tie.Need-mul-words Inv-loop μ-loop
-mul-words c = search needs
-
 array-write-words : tie.Need-array-write-words Inv-loop μ-loop
 array-write-words c = search needs
 
-add-i : tie.Need-add-i Inv-loop μ-loop
-add-i c = search needs
-
-loop-less : tie.Need-loop-less Inv-loop μ-loop
-loop-less c = search needs
-
 loop-again : tie.Need-loop-again Inv-loop μ-loop
-loop-again c = filling-turn (c .before .before .before .before .before .before .loop .inv) (omega arith) (omega arith) (c .word .ensures)
+loop-again c =
+    let s6 = c .before .before .before .before .before .before in
+    filling-turn (s6 .loop .inv) (omega arith) (omega arith) (c .word .ensures)
 
 returns : tie.Need-returns Inv-loop μ-loop
 returns c = filled (c .before .loop .inv) (omega arith)
@@ -73,25 +45,6 @@ returns c = filled (c .before .loop .inv) (omega arith)
 pub words-of-spec : {M : Type 1} → statement M
 words-of-spec =
     tie.close
-    (tie.spec
-    Inv-loop
-    μ-loop
-    loop-holds
-    mul-word
-    element-copy-out-word
-    mul-word-2
-    add-word
-    element-copy-out-word-2
-    mul-word-3
-    add-word-2
-    element-copy-out-word-3
-    mul-word-4
-    add-word-3
-    element-copy-out-word-4
-    word-requires
-    mul-words
-    array-write-words
-    add-i
-    loop-less
-    loop-again
-    returns)
+    (tie.spec Inv-loop μ-loop loop-holds (λ c. search needs) element-copy-out-word (λ c. search needs) (λ c. search needs) element-copy-out-word-2
+    (λ c. search needs) (λ c. search needs) element-copy-out-word-3 (λ c. search needs) (λ c. search needs) element-copy-out-word-4 word-requires
+    (λ c. search needs) array-write-words (λ c. search needs) (λ c. search needs) loop-again returns)

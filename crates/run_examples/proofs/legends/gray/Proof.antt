@@ -21,17 +21,8 @@ cast-gray-word c = search needs
 gray-word-requires : tie.Need-gray-word-requires Inv-loop μ-loop
 gray-word-requires c κs = search needs
 
-mul-ramp : tie.Need-mul-ramp Inv-loop μ-loop
-mul-ramp c = search needs
-
 array-write-ramp : tie.Need-array-write-ramp Inv-loop μ-loop
 array-write-ramp c = search needs
-
-add-i : tie.Need-add-i Inv-loop μ-loop
-add-i c = search needs
-
-loop-less : tie.Need-loop-less Inv-loop μ-loop
-loop-less c = search needs
 
 loop-again : tie.Need-loop-again Inv-loop μ-loop
 loop-again c = search needs
@@ -42,15 +33,5 @@ returns c = search needs
 pub gray-spec : {M : Type 1} → statement M
 gray-spec =
     tie.close
-    (tie.spec
-    Inv-loop
-    μ-loop
-    loop-holds
-    cast-gray-word
-    gray-word-requires
-    mul-ramp
-    array-write-ramp
-    add-i
-    loop-less
-    loop-again
-    returns)
+    (tie.spec Inv-loop μ-loop loop-holds cast-gray-word gray-word-requires (λ c. search needs) array-write-ramp (λ c. search needs)
+    (λ c. search needs) loop-again returns)

@@ -16,26 +16,14 @@ loop-holds c = search needs
 name-requires : tie.Need-name-requires Inv-loop μ-loop
 name-requires c κs = search needs
 
-mul-counts : tie.Need-mul-counts Inv-loop μ-loop
-mul-counts c = search needs
-
 element-copy-out-counts : tie.Need-element-copy-out-counts Inv-loop μ-loop
 element-copy-out-counts c = search needs
-
-mul-counts-2 : tie.Need-mul-counts-2 Inv-loop μ-loop
-mul-counts-2 c = search needs
 
 element-copy-out-counts-2 : tie.Need-element-copy-out-counts-2 Inv-loop μ-loop
 element-copy-out-counts-2 c = search needs
 
 counts-requires : tie.Need-counts-requires Inv-loop μ-loop
 counts-requires c κs = search needs
-
-add-kind : tie.Need-add-kind Inv-loop μ-loop
-add-kind c = search needs
-
-loop-less : tie.Need-loop-less Inv-loop μ-loop
-loop-less c = search needs
 
 loop-again : tie.Need-loop-again Inv-loop μ-loop
 loop-again c = search needs
@@ -46,17 +34,5 @@ returns c = search needs
 pub kinds-spec : {M : Type 1} → statement M
 kinds-spec =
     tie.close
-    (tie.spec
-    Inv-loop
-    μ-loop
-    loop-holds
-    name-requires
-    mul-counts
-    element-copy-out-counts
-    mul-counts-2
-    element-copy-out-counts-2
-    counts-requires
-    add-kind
-    loop-less
-    loop-again
-    returns)
+    (tie.spec Inv-loop μ-loop loop-holds name-requires (λ c. search needs) element-copy-out-counts (λ c. search needs) element-copy-out-counts-2
+    counts-requires (λ c. search needs) (λ c. search needs) loop-again returns)

@@ -21,17 +21,8 @@ cast-sample c = search needs
 sample-requires : tie.Need-sample-requires Inv-loop μ-loop
 sample-requires c κs = search needs
 
-mul-samples : tie.Need-mul-samples Inv-loop μ-loop
-mul-samples c = search needs
-
 array-write-samples : tie.Need-array-write-samples Inv-loop μ-loop
 array-write-samples c = search needs
-
-add-x : tie.Need-add-x Inv-loop μ-loop
-add-x c = search needs
-
-loop-less : tie.Need-loop-less Inv-loop μ-loop
-loop-less c = search needs
 
 loop-again : tie.Need-loop-again Inv-loop μ-loop
 loop-again c = search needs
@@ -42,15 +33,5 @@ returns c = search needs
 pub row-spec : {M : Type 1} → statement M
 row-spec =
     tie.close
-    (tie.spec
-    Inv-loop
-    μ-loop
-    loop-holds
-    cast-sample
-    sample-requires
-    mul-samples
-    array-write-samples
-    add-x
-    loop-less
-    loop-again
-    returns)
+    (tie.spec Inv-loop μ-loop loop-holds cast-sample sample-requires (λ c. search needs) array-write-samples (λ c. search needs) (λ c. search needs)
+    loop-again returns)

@@ -21,17 +21,8 @@ sub-palette-color c = search needs
 palette-color-requires : tie.Need-palette-color-requires Inv-loop μ-loop
 palette-color-requires c κs = search needs
 
-mul-colors : tie.Need-mul-colors Inv-loop μ-loop
-mul-colors c = search needs
-
 array-write-colors : tie.Need-array-write-colors Inv-loop μ-loop
 array-write-colors c = search needs
-
-add-i : tie.Need-add-i Inv-loop μ-loop
-add-i c = search needs
-
-loop-less : tie.Need-loop-less Inv-loop μ-loop
-loop-less c = search needs
 
 loop-again : tie.Need-loop-again Inv-loop μ-loop
 loop-again c = search needs
@@ -42,15 +33,5 @@ returns c = search needs
 pub cold-to-warm-spec : {M : Type 1} → statement M
 cold-to-warm-spec =
     tie.close
-    (tie.spec
-    Inv-loop
-    μ-loop
-    loop-holds
-    sub-palette-color
-    palette-color-requires
-    mul-colors
-    array-write-colors
-    add-i
-    loop-less
-    loop-again
-    returns)
+    (tie.spec Inv-loop μ-loop loop-holds sub-palette-color palette-color-requires (λ c. search needs) array-write-colors (λ c. search needs)
+    (λ c. search needs) loop-again returns)

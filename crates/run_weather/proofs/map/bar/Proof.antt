@@ -19,9 +19,6 @@ row-requires c κs = search needs
 sub-left : tie.Need-sub-left Inv-loop μ-loop
 sub-left c = search needs
 
-loop-less : tie.Need-loop-less Inv-loop μ-loop
-loop-less c = search needs
-
 loop-again : tie.Need-loop-again Inv-loop μ-loop
 loop-again c = search needs
 
@@ -31,4 +28,4 @@ returns c = search needs
 pub bar-spec : {M : Type 1} → statement M
 bar-spec =
     tie.close
-    (tie.spec Inv-loop μ-loop loop-holds row-requires sub-left loop-less loop-again returns)
+    (tie.spec Inv-loop μ-loop loop-holds row-requires sub-left (λ c. search needs) loop-again returns)

@@ -22,32 +22,14 @@ cast-x c = search needs
 cast-x-2 : tie.Need-cast-x-2 Inv-loop μ-loop
 cast-x-2 c = search needs
 
-add-x : tie.Need-add-x Inv-loop μ-loop
-add-x c = search needs
-
-add-x-2 : tie.Need-add-x-2 Inv-loop μ-loop
-add-x-2 c = search needs
-
 sub-x : tie.Need-sub-x Inv-loop μ-loop
 sub-x c = search needs
-
-mul-words : tie.Need-mul-words Inv-loop μ-loop
-mul-words c = search needs
 
 element-copy-out-words : tie.Need-element-copy-out-words Inv-loop μ-loop
 element-copy-out-words c = search needs
 
-mul-words-2 : tie.Need-mul-words-2 Inv-loop μ-loop
-mul-words-2 c = search needs
-
 element-write-words : tie.Need-element-write-words Inv-loop μ-loop
 element-write-words c = search needs
-
-add-i : tie.Need-add-i Inv-loop μ-loop
-add-i c = search needs
-
-loop-less : tie.Need-loop-less Inv-loop μ-loop
-loop-less c = search needs
 
 loop-again : tie.Need-loop-again Inv-loop μ-loop
 loop-again c = search needs
@@ -58,21 +40,5 @@ returns c = search needs
 pub glyph-spec : {M : Type 1} → statement M
 glyph-spec =
     tie.close
-    (tie.spec
-    Inv-loop
-    μ-loop
-    glyph-row-requires
-    loop-holds
-    cast-x
-    cast-x-2
-    add-x
-    add-x-2
-    sub-x
-    mul-words
-    element-copy-out-words
-    mul-words-2
-    element-write-words
-    add-i
-    loop-less
-    loop-again
-    returns)
+    (tie.spec Inv-loop μ-loop glyph-row-requires loop-holds cast-x cast-x-2 (λ c. search needs) (λ c. search needs) sub-x (λ c. search needs)
+    element-copy-out-words (λ c. search needs) element-write-words (λ c. search needs) (λ c. search needs) loop-again returns)

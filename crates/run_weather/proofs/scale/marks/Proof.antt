@@ -22,12 +22,6 @@ place-requires c κs = search needs
 mark-requires : tie.Need-mark-requires Inv-loop μ-loop
 mark-requires c κs = search needs
 
-add-k : tie.Need-add-k Inv-loop μ-loop
-add-k c = search needs
-
-loop-less : tie.Need-loop-less Inv-loop μ-loop
-loop-less c = search needs
-
 loop-again : tie.Need-loop-again Inv-loop μ-loop
 loop-again c = search needs
 
@@ -40,15 +34,5 @@ returns c = search needs
 pub marks-spec : {M : Type 1} → statement M
 marks-spec =
     tie.close
-    (tie.spec
-    Inv-loop
-    μ-loop
-    paper-requires
-    loop-holds
-    place-requires
-    mark-requires
-    add-k
-    loop-less
-    loop-again
-    mark-requires-2
-    returns)
+    (tie.spec Inv-loop μ-loop paper-requires loop-holds place-requires mark-requires (λ c. search needs) (λ c. search needs) loop-again
+    mark-requires-2 returns)

@@ -19,12 +19,6 @@ loop-holds c = search needs
 number-requires : tie.Need-number-requires Inv-loop μ-loop
 number-requires c κs = search needs
 
-add-k : tie.Need-add-k Inv-loop μ-loop
-add-k c = search needs
-
-loop-less : tie.Need-loop-less Inv-loop μ-loop
-loop-less c = search needs
-
 loop-again : tie.Need-loop-again Inv-loop μ-loop
 loop-again c = search needs
 
@@ -37,14 +31,4 @@ returns c = search needs
 pub numbers-spec : {M : Type 1} → statement M
 numbers-spec =
     tie.close
-    (tie.spec
-    Inv-loop
-    μ-loop
-    paper-requires
-    loop-holds
-    number-requires
-    add-k
-    loop-less
-    loop-again
-    number-requires-2
-    returns)
+    (tie.spec Inv-loop μ-loop paper-requires loop-holds number-requires (λ c. search needs) (λ c. search needs) loop-again number-requires-2 returns)
