@@ -9,8 +9,7 @@ use c_types::samples;
 use refusal::Answer;
 ghost use mathlib.Core.List.{map};
 ghost use Rattle.cast.specs.Samples.{ofU8, ofI16};
-ghost use Rattle.cast.specs.Nodata.{nodataU8, nodataI16};
-ghost use Rattle.c_types.specs.Samples.{nodataIf, nodataIfU8, nodataIfI16};
+ghost use Rattle.c_types.specs.Samples.{nodataIf};
 ghost use Rattle.c_painters.specs.Painting.{painterOfView, LaneOutcome};
 
 #[no_mangle]
@@ -63,7 +62,7 @@ pub extern "C" fn legend_view_paint_lanes_u8(
     out: &mut [u32],
     scratch: &mut [u32],
 ) -> LegendAnswer
-    ensures { λ r. ⌜ LaneOutcome (painterOfView view banded (now (cmap .entry)) (now (keys .entry)) (now (colors .entry)) (now (lookup .entry)) «nodata_given» (nodataU8 (nodataIfU8 «nodata_given» nodata))) lanes (map ofU8 (now (src .entry))) (now (out .entry)) (now (scratch .entry)) r (now (out .exit)) (now (scratch .exit)) ⌝ }
+    ensures { λ r. ⌜ LaneOutcome (painterOfView view banded (now (cmap .entry)) (now (keys .entry)) (now (colors .entry)) (now (lookup .entry)) «nodata_given» (nodataIf «nodata_given» (ofU8 nodata))) lanes (map ofU8 (now (src .entry))) (now (out .entry)) (now (scratch .entry)) r (now (out .exit)) (now (scratch .exit)) ⌝ }
 {
     let first = refusals::use_refusal(view.settings, view.kind, nodata_given);
     if let Answer::Refused(_) = first {
@@ -77,7 +76,7 @@ pub extern "C" fn legend_view_paint_lanes_u8(
         lookup,
         lanes,
         src,
-        samples::nodata_if_u8(nodata_given, nodata),
+        samples::nodata_if(nodata_given, cast::u8_to_f32(nodata)),
         out,
         scratch,
     ))
@@ -98,7 +97,7 @@ pub extern "C" fn legend_view_paint_lanes_i16(
     out: &mut [u32],
     scratch: &mut [u32],
 ) -> LegendAnswer
-    ensures { λ r. ⌜ LaneOutcome (painterOfView view banded (now (cmap .entry)) (now (keys .entry)) (now (colors .entry)) (now (lookup .entry)) «nodata_given» (nodataI16 (nodataIfI16 «nodata_given» nodata))) lanes (map ofI16 (now (src .entry))) (now (out .entry)) (now (scratch .entry)) r (now (out .exit)) (now (scratch .exit)) ⌝ }
+    ensures { λ r. ⌜ LaneOutcome (painterOfView view banded (now (cmap .entry)) (now (keys .entry)) (now (colors .entry)) (now (lookup .entry)) «nodata_given» (nodataIf «nodata_given» (ofI16 nodata))) lanes (map ofI16 (now (src .entry))) (now (out .entry)) (now (scratch .entry)) r (now (out .exit)) (now (scratch .exit)) ⌝ }
 {
     let first = refusals::use_refusal(view.settings, view.kind, nodata_given);
     if let Answer::Refused(_) = first {
@@ -112,7 +111,7 @@ pub extern "C" fn legend_view_paint_lanes_i16(
         lookup,
         lanes,
         src,
-        samples::nodata_if_i16(nodata_given, nodata),
+        samples::nodata_if(nodata_given, cast::i16_to_f32(nodata)),
         out,
         scratch,
     ))

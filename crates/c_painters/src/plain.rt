@@ -9,8 +9,7 @@ use c_types::samples;
 use refusal::Answer;
 ghost use mathlib.Core.List.{map};
 ghost use Rattle.cast.specs.Samples.{ofU8, ofI16};
-ghost use Rattle.cast.specs.Nodata.{nodataU8, nodataI16};
-ghost use Rattle.c_types.specs.Samples.{nodataIf, nodataIfU8, nodataIfI16};
+ghost use Rattle.c_types.specs.Samples.{nodataIf};
 ghost use Rattle.c_painters.specs.Painting.{painterOfView, PlainOutcome};
 
 #[no_mangle]
@@ -57,7 +56,7 @@ pub extern "C" fn legend_view_paint_u8(
     nodata: u8,
     out: &mut [u32],
 ) -> LegendAnswer
-    ensures { λ r. ⌜ PlainOutcome (painterOfView view banded (now (cmap .entry)) (now (keys .entry)) (now (colors .entry)) (now (lookup .entry)) «nodata_given» (nodataU8 (nodataIfU8 «nodata_given» nodata))) (map ofU8 (now (src .entry))) (now (out .entry)) r (now (out .exit)) ⌝ }
+    ensures { λ r. ⌜ PlainOutcome (painterOfView view banded (now (cmap .entry)) (now (keys .entry)) (now (colors .entry)) (now (lookup .entry)) «nodata_given» (nodataIf «nodata_given» (ofU8 nodata))) (map ofU8 (now (src .entry))) (now (out .entry)) r (now (out .exit)) ⌝ }
 {
     let first = refusals::use_refusal(view.settings, view.kind, nodata_given);
     if let Answer::Refused(_) = first {
@@ -70,7 +69,7 @@ pub extern "C" fn legend_view_paint_u8(
         colors,
         lookup,
         src,
-        samples::nodata_if_u8(nodata_given, nodata),
+        samples::nodata_if(nodata_given, cast::u8_to_f32(nodata)),
         out,
     ))
 }
@@ -88,7 +87,7 @@ pub extern "C" fn legend_view_paint_i16(
     nodata: i16,
     out: &mut [u32],
 ) -> LegendAnswer
-    ensures { λ r. ⌜ PlainOutcome (painterOfView view banded (now (cmap .entry)) (now (keys .entry)) (now (colors .entry)) (now (lookup .entry)) «nodata_given» (nodataI16 (nodataIfI16 «nodata_given» nodata))) (map ofI16 (now (src .entry))) (now (out .entry)) r (now (out .exit)) ⌝ }
+    ensures { λ r. ⌜ PlainOutcome (painterOfView view banded (now (cmap .entry)) (now (keys .entry)) (now (colors .entry)) (now (lookup .entry)) «nodata_given» (nodataIf «nodata_given» (ofI16 nodata))) (map ofI16 (now (src .entry))) (now (out .entry)) r (now (out .exit)) ⌝ }
 {
     let first = refusals::use_refusal(view.settings, view.kind, nodata_given);
     if let Answer::Refused(_) = first {
@@ -101,7 +100,7 @@ pub extern "C" fn legend_view_paint_i16(
         colors,
         lookup,
         src,
-        samples::nodata_if_i16(nodata_given, nodata),
+        samples::nodata_if(nodata_given, cast::i16_to_f32(nodata)),
         out,
     ))
 }

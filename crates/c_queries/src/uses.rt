@@ -12,7 +12,6 @@ use c_types::refusals;
 use c_types::samples;
 ghost use mathlib.Core.Path.{_≡_};
 ghost use Rattle.cast.specs.Samples.{ofU8, ofI16};
-ghost use Rattle.cast.specs.Nodata.{nodataU8, nodataI16};
 ghost use Rattle.legend_range.specs.ValueRanges.{totalValueRange};
 ghost use Rattle.legend_pixel.specs.Values.{colorForValue};
 ghost use Rattle.legend_apply.specs.ColorLists.{colorList};
@@ -20,7 +19,7 @@ ghost use Rattle.c_types.specs.Refusals.{legendRefusal, useRefusal};
 ghost use Rattle.legend_view.specs.Borrowed.{borrowedLegend};
 ghost use Rattle.c_records.specs.Views.{viewFromC};
 ghost use Rattle.c_records.specs.Records.{legendFromC};
-ghost use Rattle.c_types.specs.Samples.{nodataIf, nodataIfU8, nodataIfI16};
+ghost use Rattle.c_types.specs.Samples.{nodataIf};
 ghost use Rattle.c_answers.specs.Uses.{pixelToC, rangeToC, listToC};
 
 // ---- the colour of a sample, by a legend whose arrays are lent
@@ -66,16 +65,16 @@ pub extern "C" fn legend_view_color_for_u8(
     nodata_given: u32,
     nodata: u8,
 ) -> LegendColor
-    ensures { λ r. ⌜ r ≡ pixelToC (useRefusal (view .settings) (view .kind) «nodata_given») (colorForValue (borrowedLegend (viewFromC view banded) (now (cmap .entry)) (now (keys .entry)) (now (colors .entry)) (now (lookup .entry))) (nodataU8 (nodataIfU8 «nodata_given» nodata)) (ofU8 value)) ⌝ }
+    ensures { λ r. ⌜ r ≡ pixelToC (useRefusal (view .settings) (view .kind) «nodata_given») (colorForValue (borrowedLegend (viewFromC view banded) (now (cmap .entry)) (now (keys .entry)) (now (colors .entry)) (now (lookup .entry))) (nodataIf «nodata_given» (ofU8 nodata)) (ofU8 value)) ⌝ }
 {
-    let pixel = legend_pixel::color_for_value_u8(
+    let pixel = legend_pixel::color_for_value(
         view::view_from_c(view, banded),
         cmap,
         keys,
         colors,
         lookup,
-        value,
-        samples::nodata_if_u8(nodata_given, nodata),
+        cast::u8_to_f32(value),
+        samples::nodata_if(nodata_given, cast::u8_to_f32(nodata)),
     );
     uses::pixel_to_c(
         refusals::use_refusal(view.settings, view.kind, nodata_given),
@@ -95,16 +94,16 @@ pub extern "C" fn legend_view_color_for_i16(
     nodata_given: u32,
     nodata: i16,
 ) -> LegendColor
-    ensures { λ r. ⌜ r ≡ pixelToC (useRefusal (view .settings) (view .kind) «nodata_given») (colorForValue (borrowedLegend (viewFromC view banded) (now (cmap .entry)) (now (keys .entry)) (now (colors .entry)) (now (lookup .entry))) (nodataI16 (nodataIfI16 «nodata_given» nodata)) (ofI16 value)) ⌝ }
+    ensures { λ r. ⌜ r ≡ pixelToC (useRefusal (view .settings) (view .kind) «nodata_given») (colorForValue (borrowedLegend (viewFromC view banded) (now (cmap .entry)) (now (keys .entry)) (now (colors .entry)) (now (lookup .entry))) (nodataIf «nodata_given» (ofI16 nodata)) (ofI16 value)) ⌝ }
 {
-    let pixel = legend_pixel::color_for_value_i16(
+    let pixel = legend_pixel::color_for_value(
         view::view_from_c(view, banded),
         cmap,
         keys,
         colors,
         lookup,
-        value,
-        samples::nodata_if_i16(nodata_given, nodata),
+        cast::i16_to_f32(value),
+        samples::nodata_if(nodata_given, cast::i16_to_f32(nodata)),
     );
     uses::pixel_to_c(
         refusals::use_refusal(view.settings, view.kind, nodata_given),

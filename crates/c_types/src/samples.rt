@@ -1,9 +1,7 @@
-// A nodata value beside its flag, for each type of sample.
+// A nodata value beside its flag. One of another type is converted as a sample first.
 use cast::Nodata;
-use cast::NodataI16;
-use cast::NodataU8;
 ghost use mathlib.Core.Path.{_≡_};
-ghost use Rattle.c_types.specs.Samples.{nodataIf, nodataIfU8, nodataIfI16};
+ghost use Rattle.c_types.specs.Samples.{nodataIf};
 
 pub fn nodata_if(given: u32, value: f32) -> Nodata
     ensures { λ r. ⌜ r ≡ nodataIf given value ⌝ }
@@ -12,22 +10,4 @@ pub fn nodata_if(given: u32, value: f32) -> Nodata
         return Nodata::Value(value);
     }
     Nodata::Absent
-}
-
-pub fn nodata_if_u8(given: u32, value: u8) -> NodataU8
-    ensures { λ r. ⌜ r ≡ nodataIfU8 given value ⌝ }
-{
-    if given == 1 {
-        return NodataU8::Value(value);
-    }
-    NodataU8::Absent
-}
-
-pub fn nodata_if_i16(given: u32, value: i16) -> NodataI16
-    ensures { λ r. ⌜ r ≡ nodataIfI16 given value ⌝ }
-{
-    if given == 1 {
-        return NodataI16::Value(value);
-    }
-    NodataI16::Absent
 }

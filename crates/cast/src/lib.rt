@@ -2,7 +2,6 @@
 ghost use mathlib.Core.Path.{_≡_};
 ghost use Prim.Native.Nat.{_≤_, _<_, _^_};
 ghost use Rattle.cast.specs.Samples.{ofU8, ofI16};
-ghost use Rattle.cast.specs.Nodata.{nodataU8, nodataI16};
 ghost use Rattle.cast.specs.Truncated.{truncated};
 ghost use Rattle.cast.specs.forms.Pattern.{field, wholePart};
 
@@ -19,39 +18,10 @@ pub fn i16_to_f32(x: i16) -> f32
     x as f32
 }
 
-// The sample value that stands for no data, where one is given: an enum for each type of sample.
+// The sample value that stands for no data, where one is given: converted as a sample, so that it equals the samples it stands for.
 pub enum Nodata {
     Value(f32),
     Absent,
-}
-
-pub enum NodataU8 {
-    Value(u8),
-    Absent,
-}
-
-pub enum NodataI16 {
-    Value(i16),
-    Absent,
-}
-
-// A nodata value is converted as a sample, so that it equals the samples it stands for.
-pub fn option_u8(n: NodataU8) -> Nodata
-    ensures { λ r. ⌜ r ≡ nodataU8 n ⌝ }
-{
-    match n {
-        NodataU8::Value(x) => Nodata::Value(u8_to_f32(x)),
-        NodataU8::Absent => Nodata::Absent,
-    }
-}
-
-pub fn option_i16(n: NodataI16) -> Nodata
-    ensures { λ r. ⌜ r ≡ nodataI16 n ⌝ }
-{
-    match n {
-        NodataI16::Value(x) => Nodata::Value(i16_to_f32(x)),
-        NodataI16::Absent => Nodata::Absent,
-    }
 }
 
 // A float cut toward zero, where that is an i64.

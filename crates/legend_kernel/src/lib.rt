@@ -1,7 +1,5 @@
 // Painting rasters in lanes by a legend whose arrays are lent (docs/RULES.md, "Painting"). Samples are f32, u8 or i16.
 use cast::Nodata;
-use cast::NodataI16;
-use cast::NodataU8;
 use legend_view::View;
 use refusal::Answer;
 ghost use mathlib.Core.Path.{_≡_};
@@ -10,7 +8,6 @@ ghost use mathlib.Core.List.{map};
 ghost use Prim.Native.Nat.{_≤_, _<_};
 ghost use lib.ListN.{length};
 ghost use Rattle.cast.specs.Samples.{ofU8, ofI16};
-ghost use Rattle.cast.specs.Nodata.{nodataU8, nodataI16};
 ghost use Rattle.painting.specs.Painted.{scratchAfter};
 ghost use Rattle.painting.specs.Contracts.{LanePainting};
 ghost use Rattle.legend.specs.Painters.{painter};
@@ -54,11 +51,11 @@ pub fn apply_to_data_kernel_u8(
     lookup: &[u32; 513],
     lanes: usize,
     src: &[u8],
-    nodata: NodataU8,
+    nodata: Nodata,
     out: &mut [u32],
     scratch: &mut [u32],
 ) -> Answer
-    ensures { λ r. ⌜ LanePainting (painter (borrowedLegend view (now (cmap .entry)) (now (keys .entry)) (now (colors .entry)) (now (lookup .entry))) (nodataU8 nodata)) lanes (map ofU8 (now (src .entry))) (now (out .entry)) (now (scratch .entry)) r (now (out .exit)) (now (scratch .exit)) ⌝ }
+    ensures { λ r. ⌜ LanePainting (painter (borrowedLegend view (now (cmap .entry)) (now (keys .entry)) (now (colors .entry)) (now (lookup .entry))) nodata) lanes (map ofU8 (now (src .entry))) (now (out .entry)) (now (scratch .entry)) r (now (out .exit)) (now (scratch .exit)) ⌝ }
 {
     let answer = painting::lane_refusal(
         view.stored_refusal(),
@@ -71,8 +68,7 @@ pub fn apply_to_data_kernel_u8(
         return answer;
     }
     let simd = view.simd_supported();
-    let value = cast::option_u8(nodata);
-    legend_samples::paint_u8(view, cmap, keys, colors, lookup, value, lanes, src, out);
+    legend_samples::paint_u8(view, cmap, keys, colors, lookup, nodata, lanes, src, out);
     update_scratch(simd, lanes, out, scratch);
     answer
 }
@@ -85,11 +81,11 @@ pub fn apply_to_data_kernel_i16(
     lookup: &[u32; 513],
     lanes: usize,
     src: &[i16],
-    nodata: NodataI16,
+    nodata: Nodata,
     out: &mut [u32],
     scratch: &mut [u32],
 ) -> Answer
-    ensures { λ r. ⌜ LanePainting (painter (borrowedLegend view (now (cmap .entry)) (now (keys .entry)) (now (colors .entry)) (now (lookup .entry))) (nodataI16 nodata)) lanes (map ofI16 (now (src .entry))) (now (out .entry)) (now (scratch .entry)) r (now (out .exit)) (now (scratch .exit)) ⌝ }
+    ensures { λ r. ⌜ LanePainting (painter (borrowedLegend view (now (cmap .entry)) (now (keys .entry)) (now (colors .entry)) (now (lookup .entry))) nodata) lanes (map ofI16 (now (src .entry))) (now (out .entry)) (now (scratch .entry)) r (now (out .exit)) (now (scratch .exit)) ⌝ }
 {
     let answer = painting::lane_refusal(
         view.stored_refusal(),
@@ -102,8 +98,7 @@ pub fn apply_to_data_kernel_i16(
         return answer;
     }
     let simd = view.simd_supported();
-    let value = cast::option_i16(nodata);
-    legend_samples::paint_i16(view, cmap, keys, colors, lookup, value, lanes, src, out);
+    legend_samples::paint_i16(view, cmap, keys, colors, lookup, nodata, lanes, src, out);
     update_scratch(simd, lanes, out, scratch);
     answer
 }

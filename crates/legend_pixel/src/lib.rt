@@ -1,14 +1,10 @@
-// The colour of one sample by a legend whose arrays are lent (docs/RULES.md, "Samples and settings"). Samples are f32, u8 or i16.
+// The colour of one sample by a legend whose arrays are lent (docs/RULES.md, "Samples and settings").
 use cast::Nodata;
-use cast::NodataI16;
-use cast::NodataU8;
 use legend_view::View;
 use refusal::Answer;
 use refusal::Refusal;
 ghost use mathlib.Core.Path.{_≡_};
 ghost use Rattle.refusal.specs.declared.Answer.the-variants.{Done};
-ghost use Rattle.cast.specs.Samples.{ofU8, ofI16};
-ghost use Rattle.cast.specs.Nodata.{nodataU8, nodataI16};
 ghost use Rattle.legend.specs.Record.{storedRefusal};
 ghost use Rattle.legend.specs.Painters.{painter};
 ghost use Rattle.legend_view.specs.Borrowed.{borrowedLegend};
@@ -35,52 +31,6 @@ pub fn color_for_value(
         Answer::Refused(why) => PixelColor::Refused(why),
         Answer::Done => PixelColor::Color(pixel(view, cmap, keys, colors, lookup, value, nodata)),
     }
-}
-
-pub fn color_for_value_u8(
-    view: View,
-    cmap: &[u32; 256],
-    keys: &[i64; 256],
-    colors: &[u32; 256],
-    lookup: &[u32; 513],
-    value: u8,
-    nodata: NodataU8,
-) -> PixelColor
-    ensures { λ r. ⌜ r ≡ colorForValue (borrowedLegend view (now (cmap .entry)) (now (keys .entry)) (now (colors .entry)) (now (lookup .entry))) (nodataU8 nodata) (ofU8 value) ⌝ }
-{
-    let sample = cast::u8_to_f32(value);
-    color_for_value(
-        view,
-        cmap,
-        keys,
-        colors,
-        lookup,
-        sample,
-        cast::option_u8(nodata),
-    )
-}
-
-pub fn color_for_value_i16(
-    view: View,
-    cmap: &[u32; 256],
-    keys: &[i64; 256],
-    colors: &[u32; 256],
-    lookup: &[u32; 513],
-    value: i16,
-    nodata: NodataI16,
-) -> PixelColor
-    ensures { λ r. ⌜ r ≡ colorForValue (borrowedLegend view (now (cmap .entry)) (now (keys .entry)) (now (colors .entry)) (now (lookup .entry))) (nodataI16 nodata) (ofI16 value) ⌝ }
-{
-    let sample = cast::i16_to_f32(value);
-    color_for_value(
-        view,
-        cmap,
-        keys,
-        colors,
-        lookup,
-        sample,
-        cast::option_i16(nodata),
-    )
 }
 
 // A raster of one sample, painted plainly.

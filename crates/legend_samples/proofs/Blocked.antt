@@ -1,11 +1,21 @@
--- A block of samples of any type, turned into f32, and the last block. Assumes nothing.
+-- The loop over blocks of samples of any type: its invariant, the first turn, each turn and the end. Assumes nothing.
 use mathlib.Core.Path.{_≡_, refl, sym, ap, ap₂, _∙_}
-use mathlib.Core.List.{List, [], _∷_, _++_, map, append-assoc, append-nil}
-use Prim.Native.Nat.{ℕ, zero, suc, _+_, _-_, _≤_}
+use mathlib.Core.Logic.{_⊎_, inl, inr}
+use mathlib.Core.Bool.{true}
+use mathlib.Core.List.{List, [], _∷_, _++_, map}
+use Prim.Native.Nat.{ℕ, zero, suc, _+_, _-_, _≤_, _<_, min}
 use native.Mathlib.Omega.{arith}
 use lib.Ieee.{Float}
-use lib.ListN.{length, take, drop, length-drop, drop-of-length-le}
-use lib.Seq.{drop-drop, take-all}
+use lib.ListN.{length, take, drop, length-map, length-drop}
+use lib.Seq.{length-take-le}
+use Rattle.lists.proofs.Numbers.{lt-or-le}
+use Rattle.cast.specs.declared.Nodata.{Nodata}
+use Rattle.painting.proofs.Blocks.{Splits, InBlocks, blocks-start, block-turn, blocks-end}
+use Rattle.legend.specs.declared.Legend.{Legend}
+use Rattle.legend.specs.Painters.{painter}
+use Rattle.legend.proofs.AnyKind.{chunk-long}
+use Rattle.legend_paint.specs.forms.PlainOrLanes.{painted, plainOrLanes}
+use Rattle.legend_samples.proofs.Splits.{splits}
 
 -- a part of what is mapped
 map-take : {A : Type 0} (f : A → Float) (n : ℕ) (xs : List A) → take n (map f xs) ≡ map f (take n xs)
@@ -18,27 +28,53 @@ map-drop f zero xs = refl
 map-drop f (suc n) [] = refl
 map-drop f (suc n) (x ∷ xs) = map-drop f n xs
 
--- the samples from one place to another, turned into f32 and painted over the output
-pub block-is : {A : Type 0} (f : A → Float) (paint : List Float → List ℕ) (src : List A) (from to : ℕ) (samples : List Float) (out : List ℕ) {out' : List ℕ}
-    → from ≤ to → take (to - from) samples ≡ map f (take (to - from) (drop from src))
-    → out' ≡ take from out ++ (paint (take (to - from) samples) ++ drop (to - from) (drop from out))
-    → out' ≡ take from out ++ paint (take (to - from) (drop from (map f src))) ++ drop to out
-block-is f paint src from to samples out h e g =
-    let k : from + (to - from) ≡ to = omega arith in
-    let part : take (to - from) samples ≡ take (to - from) (drop from (map f src)) =
-    e ∙ sym (ap (take (to - from)) (map-drop f from src) ∙ map-take f (to - from) (drop from src)) in
-    g ∙ ap₂ (λ (xs : List Float) (r : List ℕ). take from out ++ (paint xs ++ r)) part (drop-drop (to - from) from out ∙ ap (λ (n : ℕ). drop n out) k) ∙ sym (append-assoc (take from out) (paint (take (to - from) (drop from (map f src)))) (drop to out))
+-- a block ends after 256 samples or with the last
+which : (i n : ℕ) → i ≤ n → (min (i + 256) n ≡ i + 256) ⊎ (min (i + 256) n ≡ n)
+which i n h = go (lt-or-le n (i + 256))
+  where
+    go : (n < i + 256) ⊎ (i + 256 ≤ n) → (min (i + 256) n ≡ i + 256) ⊎ (min (i + 256) n ≡ n)
+    go (inl p) = inr (omega arith)
+    go (inr p) = inl (omega arith)
 
--- a whole block
-pub block-next : (paint : List Float → List ℕ) (xs : List Float) (out : List ℕ) (base : ℕ) {out' : List ℕ}
-    → out' ≡ take base out ++ paint (take (base + 256 - base) (drop base xs)) ++ drop (base + 256) out
-    → out' ≡ take base out ++ paint (take 256 (drop base xs)) ++ drop (base + 256) out
-block-next paint xs out base e = let k : base + 256 - base ≡ 256 = omega arith in e ∙ ap (λ (n : ℕ). take base out ++ paint (take n (drop base xs)) ++ drop (base + 256) out) k
+abbrev paint : Legend → Nodata → (lanes : ℕ) → List Float → List ℕ
+paint l nodata lanes = painted (painter l nodata) lanes
 
--- the last block
-pub block-last : (paint : List Float → List ℕ) (xs : List Float) (out : List ℕ) (base n : ℕ) {out' : List ℕ} → n ≡ length xs → length out ≡ length xs
-    → out' ≡ take base out ++ paint (take (n - base) (drop base xs)) ++ drop n out → out' ≡ take base out ++ paint (drop base xs)
-block-last paint xs out base n m l e =
-    let none : drop n out ≡ [] = drop-of-length-le out {i = n} (omega arith) in
-    let all : take (n - base) (drop base xs) ≡ drop base xs = take-all (n - base) (drop base xs) (omega (arith, length-drop base xs)) in
-    e ∙ append-assoc (take base out) (paint (take (n - base) (drop base xs))) (drop n out) ∙ ap₂ (λ (ys : List Float) (r : List ℕ). take base out ++ (paint ys ++ r)) all none ∙ ap (λ (r : List ℕ). take base out ++ r) (append-nil (paint (drop base xs)))
+at-blocks : (l : Legend) (nodata : Nodata) (lanes : ℕ) → plainOrLanes lanes ≡ true → Splits 256 (paint l nodata lanes)
+at-blocks l nodata lanes h = splits (painter l nodata) (chunk-long l nodata) lanes h
+
+-- of the n samples, those below `from` are painted
+pub record Blocked {A : Type 0} (float : A → Float) (l : Legend) (nodata : Nodata) (lanes : ℕ) (src : List A) (n from : ℕ) (out : List ℕ) : Type 0 where
+  pub known : plainOrLanes lanes ≡ true
+  pub all : n ≡ length src
+  pub upto : from ≤ n
+  pub same : length out ≡ n
+  pub is : InBlocks (paint l nodata lanes) (map float src) from out
+
+module _ {A : Type 0} {float : A → Float} {l : Legend} {nodata : Nodata} {lanes : ℕ} {src : List A} {out : List ℕ} where
+  pub blocked-start : plainOrLanes lanes ≡ true → length out ≡ length src → Blocked float l nodata lanes src (length src) 0 out
+  blocked-start h e = record { known = h; all = refl; upto = omega arith; same = e; is = blocks-start (e ∙ sym (length-map src float)) }
+
+  -- a turn: the samples of the block as f32, painted over the output
+  pub blocked-turn : {n from to : ℕ} {out' : List ℕ} (samples : List Float)
+      → Blocked float l nodata lanes src n from out → to ≡ min (from + 256) n
+      → take (length (take (to - from) (drop from src))) samples ≡ map float (take (to - from) (drop from src))
+      → out' ≡ take from out ++ (paint l nodata lanes (take (to - from) samples) ++ drop to out)
+      → Blocked float l nodata lanes src n to out'
+  blocked-turn {n} {from} {to} {out'} samples g b e p =
+      let k = g .all in
+      let u = g .upto in
+      let m = length-map src float in
+      let c : length (take (to - from) (drop from src)) ≡ to - from = length-take-le (to - from) (drop from src) (omega (arith, length-drop from src)) in
+      let part : take (to - from) samples ≡ take (to - from) (drop from (map float src)) =
+      ap (λ (j : ℕ). take j samples) (sym c) ∙ e ∙ sym (ap (take (to - from)) (map-drop float from src) ∙ map-take float (to - from) (drop from src)) in
+      let t =
+      block-turn (at-blocks l nodata lanes (g .known)) (g .is) (omega arith) (omega arith) (ends b (which from n u))
+      (p ∙ ap (λ (xs : List Float). take from out ++ (paint l nodata lanes xs ++ drop to out)) part) in
+      record { known = g .known; all = k; upto = omega arith; same = t .same ∙ m ∙ sym k; is = t }
+    where
+      ends : to ≡ min (from + 256) n → (min (from + 256) n ≡ from + 256) ⊎ (min (from + 256) n ≡ n) → (to ≡ from + 256) ⊎ (to ≡ length (map float src))
+      ends b (inl w) = inl (b ∙ w)
+      ends b (inr w) = inr (b ∙ w ∙ g .all ∙ sym (length-map src float))
+
+  pub blocked-end : {n from : ℕ} → Blocked float l nodata lanes src n from out → n ≤ from → out ≡ paint l nodata lanes (map float src)
+  blocked-end g q = blocks-end (at-blocks l nodata lanes (g .known)) (g .is) (omega (arith, g .all, length-map src float))

@@ -5,7 +5,7 @@ use legend_view::View;
 ghost use mathlib.Core.Path.{_≡_};
 ghost use mathlib.Core.Bool.{true};
 ghost use mathlib.Core.List.{map, _++_};
-ghost use Prim.Native.Nat.{_+_, _-_, _≤_};
+ghost use Prim.Native.Nat.{_+_, _-_, _≤_, min};
 ghost use lib.ListN.{length, take, drop};
 ghost use Rattle.refusal.specs.declared.Answer.the-variants.{Done};
 ghost use Rattle.cast.specs.Samples.{ofU8, ofI16};
@@ -13,6 +13,39 @@ ghost use Rattle.legend.specs.Record.{storedRefusal};
 ghost use Rattle.legend.specs.Painters.{painter};
 ghost use Rattle.legend_view.specs.Borrowed.{borrowedLegend};
 ghost use Rattle.legend_paint.specs.forms.PlainOrLanes.{painted, plainOrLanes};
+
+// ---- samples of any type
+
+// Where the block from a place on ends, of n samples.
+fn block_end(from: usize, n: usize) -> usize
+    requires { ⌜ from ≤ n ⌝ }
+    ensures { λ r. ⌜ r ≡ min (from + 256) n ⌝ }
+{
+    if n - from <= 256 { n } else { from + 256 }
+}
+
+// A block's samples as f32, painted from one place of the output to another.
+fn block(
+    view: View,
+    cmap: &[u32; 256],
+    keys: &[i64; 256],
+    colors: &[u32; 256],
+    lookup: &[u32; 513],
+    nodata: Nodata,
+    lanes: usize,
+    samples: &[f32],
+    from: usize,
+    to: usize,
+    out: &mut [u32],
+)
+    requires { ⌜ (storedRefusal (borrowedLegend view (now cmap) (now keys) (now colors) (now lookup)) ≡ Done) × (plainOrLanes lanes ≡ true) × (from ≤ to) × (to - from ≤ length (now samples)) × (to ≤ length (now out)) ⌝ }
+    ensures { λ _. ⌜ now (out .exit) ≡ take from (now (out .entry)) ++ (painted (painter (borrowedLegend view (now (cmap .entry)) (now (keys .entry)) (now (colors .entry)) (now (lookup .entry))) nodata) lanes (take (to - from) (now (samples .entry))) ++ drop to (now (out .entry))) ⌝ }
+{
+    let count = to - from;
+    let part = &samples[..count];
+    let place = &mut out[from..to];
+    legend_paint::paint_simd(view, cmap, keys, colors, lookup, nodata, lanes, part, place);
+}
 
 // ---- samples that are u8
 
@@ -31,30 +64,6 @@ fn f32_of_u8(src: &[u8]) -> [f32; 256]
     result
 }
 
-// The samples from one place to another, at most 256.
-fn block_u8(
-    view: View,
-    cmap: &[u32; 256],
-    keys: &[i64; 256],
-    colors: &[u32; 256],
-    lookup: &[u32; 513],
-    nodata: Nodata,
-    lanes: usize,
-    src: &[u8],
-    from: usize,
-    to: usize,
-    out: &mut [u32],
-)
-    requires { ⌜ (storedRefusal (borrowedLegend view (now cmap) (now keys) (now colors) (now lookup)) ≡ Done) × (plainOrLanes lanes ≡ true) × (from ≤ to) × (to ≤ from + 256) × (to ≤ length (now src)) × (length (now out) ≡ length (now src)) ⌝ }
-    ensures { λ _. ⌜ now (out .exit) ≡ take from (now (out .entry)) ++ painted (painter (borrowedLegend view (now (cmap .entry)) (now (keys .entry)) (now (colors .entry)) (now (lookup .entry))) nodata) lanes (take (to - from) (drop from (map ofU8 (now (src .entry))))) ++ drop to (now (out .entry)) ⌝ }
-{
-    let samples = f32_of_u8(&src[from..to]);
-    let count = to - from;
-    let part = &samples[..count];
-    let place = &mut out[from..to];
-    legend_paint::paint_simd(view, cmap, keys, colors, lookup, nodata, lanes, part, place);
-}
-
 pub fn paint_u8(
     view: View,
     cmap: &[u32; 256],
@@ -70,10 +79,11 @@ pub fn paint_u8(
     ensures { λ _. ⌜ now (out .exit) ≡ painted (painter (borrowedLegend view (now (cmap .entry)) (now (keys .entry)) (now (colors .entry)) (now (lookup .entry))) nodata) lanes (map ofU8 (now (src .entry))) ⌝ }
 {
     let n = src.len();
-    let mut base: usize = 0;
-    while 256 <= n - base {
-        let next = base + 256;
-        block_u8(
+    let mut from: usize = 0;
+    while from < n {
+        let to = block_end(from, n);
+        let samples = f32_of_u8(&src[from..to]);
+        block(
             view,
             cmap,
             keys,
@@ -81,26 +91,13 @@ pub fn paint_u8(
             lookup,
             nodata,
             lanes,
-            src,
-            base,
-            next,
+            &samples,
+            from,
+            to,
             out,
         );
-        base = next;
+        from = to;
     }
-    block_u8(
-        view,
-        cmap,
-        keys,
-        colors,
-        lookup,
-        nodata,
-        lanes,
-        src,
-        base,
-        n,
-        out,
-    );
 }
 
 // ---- samples that are i16
@@ -120,30 +117,6 @@ fn f32_of_i16(src: &[i16]) -> [f32; 256]
     result
 }
 
-// The samples from one place to another, at most 256.
-fn block_i16(
-    view: View,
-    cmap: &[u32; 256],
-    keys: &[i64; 256],
-    colors: &[u32; 256],
-    lookup: &[u32; 513],
-    nodata: Nodata,
-    lanes: usize,
-    src: &[i16],
-    from: usize,
-    to: usize,
-    out: &mut [u32],
-)
-    requires { ⌜ (storedRefusal (borrowedLegend view (now cmap) (now keys) (now colors) (now lookup)) ≡ Done) × (plainOrLanes lanes ≡ true) × (from ≤ to) × (to ≤ from + 256) × (to ≤ length (now src)) × (length (now out) ≡ length (now src)) ⌝ }
-    ensures { λ _. ⌜ now (out .exit) ≡ take from (now (out .entry)) ++ painted (painter (borrowedLegend view (now (cmap .entry)) (now (keys .entry)) (now (colors .entry)) (now (lookup .entry))) nodata) lanes (take (to - from) (drop from (map ofI16 (now (src .entry))))) ++ drop to (now (out .entry)) ⌝ }
-{
-    let samples = f32_of_i16(&src[from..to]);
-    let count = to - from;
-    let part = &samples[..count];
-    let place = &mut out[from..to];
-    legend_paint::paint_simd(view, cmap, keys, colors, lookup, nodata, lanes, part, place);
-}
-
 pub fn paint_i16(
     view: View,
     cmap: &[u32; 256],
@@ -159,10 +132,11 @@ pub fn paint_i16(
     ensures { λ _. ⌜ now (out .exit) ≡ painted (painter (borrowedLegend view (now (cmap .entry)) (now (keys .entry)) (now (colors .entry)) (now (lookup .entry))) nodata) lanes (map ofI16 (now (src .entry))) ⌝ }
 {
     let n = src.len();
-    let mut base: usize = 0;
-    while 256 <= n - base {
-        let next = base + 256;
-        block_i16(
+    let mut from: usize = 0;
+    while from < n {
+        let to = block_end(from, n);
+        let samples = f32_of_i16(&src[from..to]);
+        block(
             view,
             cmap,
             keys,
@@ -170,24 +144,11 @@ pub fn paint_i16(
             lookup,
             nodata,
             lanes,
-            src,
-            base,
-            next,
+            &samples,
+            from,
+            to,
             out,
         );
-        base = next;
+        from = to;
     }
-    block_i16(
-        view,
-        cmap,
-        keys,
-        colors,
-        lookup,
-        nodata,
-        lanes,
-        src,
-        base,
-        n,
-        out,
-    );
 }

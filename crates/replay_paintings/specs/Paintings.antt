@@ -2,14 +2,12 @@
 use mathlib.Core.Bool.{cond}
 use mathlib.Core.List.{List, map, _++_}
 use Prim.Native.Nat.{ℕ, _-_}
-use lib.Dec.{eqb}
 use lib.Ieee.{Float}
-use lib.ListN.{length, getD, replicate}
+use lib.ListN.{length, replicate}
 use Rattle.lists.specs.Padded.{padded}
 use Rattle.refusal.specs.Outcome.{ifDone}
 use Rattle.refusal.specs.Table.{numberOf}
 use Rattle.cast.specs.declared.Nodata.{Nodata}
-use Rattle.cast.specs.Nodata.{nodataU8, nodataI16}
 use Rattle.painting.specs.Painted.{plainPainted, lanePainted, scratchAfter}
 use Rattle.painting.specs.Contracts.{Painter, plainRefusal, laneRefusal}
 use Rattle.legend.specs.declared.Legend.{Legend}
@@ -20,7 +18,7 @@ use Rattle.legend_pixel.specs.Values.{colorForValue}
 use Rattle.replay_rows.specs.Parts.{putAt}
 use Rattle.replay_paintings.specs.declared.LaneWords.{LaneWords}
 use Rattle.replay_paintings.specs.declared.Paintings.{Paintings}
-use Rattle.replay_paintings.specs.Samples.{nodataF32, nodataByte, nodataShort, samplesF32, samplesU8, samplesI16}
+use Rattle.replay_paintings.specs.Samples.{nodataOf, samplesOf}
 
 -- ---- the colours of at most forty samples, in forty words
 abbrev pub colorOrNumber : PixelColor → ℕ
@@ -47,7 +45,9 @@ abbrev pub mark : List ℕ
 mark = replicate 16 1549556828
 
 abbrev pub inLanes : (L : ℕ) → Painter → List Float → List ℕ
-inLanes L p xs = ifDone (laneRefusal (p .stored) L 16 (length xs) (length xs)) (cond (p .simd) (lanePainted L (p .chunk) (p .plain) xs) (plainPainted (p .plain) xs)) (blank xs)
+inLanes L p xs =
+    ifDone (laneRefusal (p .stored) L 16 (length xs) (length xs))
+    (cond (p .simd) (lanePainted L (p .chunk) (p .plain) xs) (plainPainted (p .plain) xs)) (blank xs)
 
 unfoldable pub laneWords : (L : ℕ) → Painter → List Float → LaneWords
 laneWords L p xs =
@@ -68,15 +68,8 @@ paintingsBy legend nodata xs =
       «lanes_16» = laneWords 16 p xs;
     }
 
--- by the samples' type
-unfoldable pub paintingsIn : (type : ℕ) → Legend → (row : List ℕ) → Paintings
-paintingsIn type legend row =
-    cond (eqb type 0) (paintingsBy legend (nodataF32 row) (samplesF32 row))
-    (cond (eqb type 1) (paintingsBy legend (nodataU8 (nodataByte row)) (samplesU8 row))
-    (paintingsBy legend (nodataI16 (nodataShort row)) (samplesI16 row)))
-
 abbrev pub paintingsOf : Legend → (row : List ℕ) → Paintings
-paintingsOf legend row = paintingsIn (getD row 8 0) legend row
+paintingsOf legend row = paintingsBy legend (nodataOf row) (samplesOf row)
 
 -- ---- in their places
 abbrev pub withLanes : LaneWords → (at kept : ℕ) → List ℕ → List ℕ

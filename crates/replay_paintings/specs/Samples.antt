@@ -1,16 +1,12 @@
--- The samples of a row and its nodata value, by their type. Definitions only.
+-- The samples of a row and its nodata value, as f32. Definitions only.
 use mathlib.Core.Bool.{Bool, cond}
-use mathlib.Core.List.{List, map}
+use mathlib.Core.List.{List}
 use Prim.Native.Nat.{ℕ, _/_, _%_}
 use lib.Dec.{eqb}
 use lib.Ieee.{Float}
 use lib.ListN.{getD, take}
 use Rattle.cast.specs.declared.Nodata.{Nodata}
-use Rattle.cast.specs.declared.Nodata.the-variants as float
-use Rattle.cast.specs.declared.NodataU8.{NodataU8}
-use Rattle.cast.specs.declared.NodataU8.the-variants as byte
-use Rattle.cast.specs.declared.NodataI16.{NodataI16}
-use Rattle.cast.specs.declared.NodataI16.the-variants as short
+use Rattle.cast.specs.declared.Nodata.the-variants.{Value, Absent}
 use Rattle.cast.specs.Samples.{ofU8, ofI16}
 use Rattle.replay_rows.specs.Values.{floatOf, shortOf, atMost}
 use Rattle.replay_rows.specs.Parts.{valuesAt}
@@ -18,24 +14,20 @@ use Rattle.replay_rows.specs.Parts.{valuesAt}
 abbrev pub isGiven : (row : List ℕ) → Bool
 isGiven row = eqb (getD row 4 0 / 8 % 2) 1
 
-abbrev pub nodataF32 : (row : List ℕ) → Nodata
-nodataF32 row = cond (isGiven row) (float.Value (floatOf (getD row 7 0))) float.Absent
+-- the number of the samples' type: 0 f32, 1 u8, otherwise i16
+abbrev pub sampleType : (row : List ℕ) → ℕ
+sampleType row = getD row 8 0
 
-abbrev pub nodataByte : (row : List ℕ) → NodataU8
-nodataByte row = cond (isGiven row) (byte.Value (getD row 7 0 % 256)) byte.Absent
+-- the f32 that a word stands for, by that number
+unfoldable pub sampleOf : (number word : ℕ) → Float
+sampleOf number word = cond (eqb number 0) (floatOf word) (cond (eqb number 1) (ofU8 (word % 256)) (ofI16 (shortOf word)))
 
-abbrev pub nodataShort : (row : List ℕ) → NodataI16
-nodataShort row = cond (isGiven row) (short.Value (shortOf (getD row 7 0))) short.Absent
+abbrev pub nodataOf : (row : List ℕ) → Nodata
+nodataOf row = cond (isGiven row) (Value (sampleOf (sampleType row) (getD row 7 0))) Absent
 
--- as f32, those that are counted
-abbrev pub sampleCount : (row : List ℕ) → ℕ
-sampleCount row = atMost (getD row 9 0) 40
+-- the first of the forty samples, by that number; those of a row are as many as it counts
+abbrev pub samplesAs : (number count : ℕ) → (row : List ℕ) → List Float
+samplesAs number count row = take count (valuesAt (sampleOf number) 80 40 row)
 
-abbrev pub samplesF32 : (row : List ℕ) → List Float
-samplesF32 row = take (sampleCount row) (valuesAt floatOf 80 40 row)
-
-abbrev pub samplesU8 : (row : List ℕ) → List Float
-samplesU8 row = map ofU8 (take (sampleCount row) (valuesAt (λ w. w % 256) 80 40 row))
-
-abbrev pub samplesI16 : (row : List ℕ) → List Float
-samplesI16 row = map ofI16 (take (sampleCount row) (valuesAt shortOf 80 40 row))
+abbrev pub samplesOf : (row : List ℕ) → List Float
+samplesOf row = samplesAs (sampleType row) (atMost (getD row 9 0) 40) row

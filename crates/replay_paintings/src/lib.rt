@@ -3,6 +3,7 @@ pub mod paint;
 mod raster_f32;
 mod raster_i16;
 mod raster_u8;
+mod sample;
 
 // A painting in lanes: the words, and scratch after it, which held 5C5C5C5C in each word.
 pub struct LaneWords {

@@ -1,24 +1,24 @@
-// Every painting of a row's samples, by their type, and its words in their places.
+// Every painting of a row's samples, and its words in their places.
 use crate::LaneWords;
 use crate::Paintings;
 use crate::raster_f32;
 use crate::raster_i16;
 use crate::raster_u8;
+use crate::sample;
+use cast::Nodata;
 use legend::Legend;
 use legend_pixel::PixelColor;
+use legend_view::View;
 use replay_rows::part;
 use replay_rows::place;
+use replay_rows::value;
 ghost use mathlib.Core.Path.{_≡_};
 ghost use Prim.Native.Nat.{_+_, _≤_};
-ghost use Rattle.replay_paintings.specs.Samples.{isGiven};
-ghost use Rattle.replay_paintings.specs.Paintings.{colorOrNumber, withLanes, withPaintings, paintingsOf};
-
-// Whether a nodata value is given.
-pub fn is_given(row: &[u32; 1680]) -> bool
-    ensures { λ r. ⌜ r ≡ isGiven (now (row .entry)) ⌝ }
-{
-    row[place::FLAGS] / 8 % 2 == 1
-}
+ghost use lib.ListN.{take};
+ghost use Rattle.legend.specs.Painters.{painter};
+ghost use Rattle.legend_view.specs.Borrowed.{borrowedLegend};
+ghost use Rattle.replay_paintings.specs.Samples.{sampleType, samplesAs};
+ghost use Rattle.replay_paintings.specs.Paintings.{colorOrNumber, valueWords, plainWords, laneWords, withLanes, withPaintings, paintingsOf};
 
 // A sample's colour, or the number of the refusal.
 pub fn color_or_number(color: PixelColor) -> u32
@@ -30,13 +30,104 @@ pub fn color_or_number(color: PixelColor) -> u32
     }
 }
 
+// Each by itself.
+fn values(
+    view: View,
+    cmap: &[u32; 256],
+    keys: &[i64; 256],
+    colors: &[u32; 256],
+    lookup: &[u32; 513],
+    samples: [f32; 40],
+    count: usize,
+    nodata: Nodata,
+) -> [u32; 40]
+    requires { ⌜ count ≤ 40 ⌝ }
+    ensures { λ r. ⌜ r ≡ valueWords (borrowedLegend view (now (cmap .entry)) (now (keys .entry)) (now (colors .entry)) (now (lookup .entry))) nodata (take count samples) ⌝ }
+{
+    let mut words = [0u32; 40];
+    let mut i: usize = 0;
+    while i < count {
+        let color = legend_pixel::color_for_value(
+            view,
+            cmap,
+            keys,
+            colors,
+            lookup,
+            samples[i],
+            nodata,
+        );
+        words[i] = color_or_number(color);
+        i += 1;
+    }
+    words
+}
+
+// By the painter of their type, plainly and in lanes.
+fn plain(
+    view: View,
+    cmap: &[u32; 256],
+    keys: &[i64; 256],
+    colors: &[u32; 256],
+    lookup: &[u32; 513],
+    row: &[u32; 1680],
+    count: usize,
+    nodata: Nodata,
+) -> [u32; 40]
+    requires { ⌜ count ≤ 40 ⌝ }
+    ensures { λ r. ⌜ r ≡ plainWords (painter (borrowedLegend view (now (cmap .entry)) (now (keys .entry)) (now (colors .entry)) (now (lookup .entry))) nodata) (samplesAs (sampleType (now (row .entry))) count (now (row .entry))) ⌝ }
+{
+    match row[place::SAMPLE_TYPE] {
+        0 => raster_f32::plain(view, cmap, keys, colors, lookup, row, count, nodata),
+        1 => raster_u8::plain(view, cmap, keys, colors, lookup, row, count, nodata),
+        _ => raster_i16::plain(view, cmap, keys, colors, lookup, row, count, nodata),
+    }
+}
+
+fn lanes(
+    view: View,
+    cmap: &[u32; 256],
+    keys: &[i64; 256],
+    colors: &[u32; 256],
+    lookup: &[u32; 513],
+    lanes: usize,
+    row: &[u32; 1680],
+    count: usize,
+    nodata: Nodata,
+) -> LaneWords
+    requires { ⌜ count ≤ 40 ⌝ }
+    ensures { λ r. ⌜ r ≡ laneWords lanes (painter (borrowedLegend view (now (cmap .entry)) (now (keys .entry)) (now (colors .entry)) (now (lookup .entry))) nodata) (samplesAs (sampleType (now (row .entry))) count (now (row .entry))) ⌝ }
+{
+    match row[place::SAMPLE_TYPE] {
+        0 => raster_f32::lanes(view, cmap, keys, colors, lookup, lanes, row, count, nodata),
+        1 => raster_u8::lanes(view, cmap, keys, colors, lookup, lanes, row, count, nodata),
+        _ => raster_i16::lanes(view, cmap, keys, colors, lookup, lanes, row, count, nodata),
+    }
+}
+
 pub fn painted(legend: Legend, row: &[u32; 1680]) -> Paintings
     ensures { λ r. ⌜ r ≡ paintingsOf legend (now (row .entry)) ⌝ }
 {
-    match row[place::SAMPLE_TYPE] {
-        0 => raster_f32::painted(legend, row),
-        1 => raster_u8::painted(legend, row),
-        _ => raster_i16::painted(legend, row),
+    let linear = legend.linear;
+    let categoric = legend.categoric;
+    let cmap = linear.cmap;
+    let keys = categoric.keys;
+    let colors = categoric.colors;
+    let lookup = categoric.lookup;
+    let view = legend_view::view_of(legend);
+    let samples = sample::floats(row);
+    let count = value::at_most(row[place::SAMPLE_COUNT], 40);
+    let none = sample::nodata(row);
+    let values = values(view, &cmap, &keys, &colors, &lookup, samples, count, none);
+    let plain = plain(view, &cmap, &keys, &colors, &lookup, row, count, none);
+    let lanes_4 = lanes(view, &cmap, &keys, &colors, &lookup, 4, row, count, none);
+    let lanes_8 = lanes(view, &cmap, &keys, &colors, &lookup, 8, row, count, none);
+    let lanes_16 = lanes(view, &cmap, &keys, &colors, &lookup, 16, row, count, none);
+    Paintings {
+        values,
+        plain,
+        lanes_4,
+        lanes_8,
+        lanes_16,
     }
 }
 

@@ -1,79 +1,37 @@
-// Samples that are u8.
+// Samples that are u8, through the painters of that type.
 use crate::LaneWords;
-use crate::Paintings;
-use crate::paint;
-use cast::NodataU8;
-use legend::Legend;
+use cast::Nodata;
+use legend_view::View;
 use replay_rows::part;
 use replay_rows::place;
-use replay_rows::value;
 ghost use mathlib.Core.Path.{_≡_};
-ghost use mathlib.Core.List.{map};
 ghost use Prim.Native.Nat.{_≤_};
-ghost use lib.ListN.{take};
-ghost use Rattle.cast.specs.Samples.{ofU8, ofI16};
-ghost use Rattle.cast.specs.Nodata.{nodataU8, nodataI16};
 ghost use Rattle.legend.specs.Painters.{painter};
-ghost use Rattle.replay_paintings.specs.Paintings.{plainWords, laneWords, valueWords, paintingsBy};
-ghost use Rattle.replay_paintings.specs.Samples.{nodataF32, nodataByte, nodataShort, samplesF32, samplesU8, samplesI16};
+ghost use Rattle.legend_view.specs.Borrowed.{borrowedLegend};
+ghost use Rattle.replay_paintings.specs.Samples.{samplesAs};
+ghost use Rattle.replay_paintings.specs.Paintings.{plainWords, laneWords};
 
-fn nodata(row: &[u32; 1680]) -> NodataU8
-    ensures { λ r. ⌜ r ≡ nodataByte (now (row .entry)) ⌝ }
-{
-    if paint::is_given(row) {
-        NodataU8::Value(value::byte(row[place::NODATA]))
-    } else {
-        NodataU8::Absent
-    }
-}
-
-// Each by itself.
-fn values(legend: Legend, samples: [u8; 40], count: usize, nodata: NodataU8) -> [u32; 40]
+pub fn plain(
+    view: View,
+    cmap: &[u32; 256],
+    keys: &[i64; 256],
+    colors: &[u32; 256],
+    lookup: &[u32; 513],
+    row: &[u32; 1680],
+    count: usize,
+    nodata: Nodata,
+) -> [u32; 40]
     requires { ⌜ count ≤ 40 ⌝ }
-    ensures { λ r. ⌜ r ≡ valueWords legend (nodataU8 nodata) (map ofU8 (take count samples)) ⌝ }
+    ensures { λ r. ⌜ r ≡ plainWords (painter (borrowedLegend view (now (cmap .entry)) (now (keys .entry)) (now (colors .entry)) (now (lookup .entry))) nodata) (samplesAs 1 count (now (row .entry))) ⌝ }
 {
-    let linear = legend.linear;
-    let categoric = legend.categoric;
-    let cmap = linear.cmap;
-    let keys = categoric.keys;
-    let colors = categoric.colors;
-    let lookup = categoric.lookup;
-    let view = legend_view::view_of(legend);
-    let mut words = [0u32; 40];
-    let mut i: usize = 0;
-    while i < count {
-        words[i] = paint::color_or_number(legend_pixel::color_for_value_u8(
-            view,
-            &cmap,
-            &keys,
-            &colors,
-            &lookup,
-            samples[i],
-            nodata,
-        ));
-        i += 1;
-    }
-    words
-}
-
-fn plain(legend: Legend, samples: [u8; 40], count: usize, nodata: NodataU8) -> [u32; 40]
-    requires { ⌜ count ≤ 40 ⌝ }
-    ensures { λ r. ⌜ r ≡ plainWords (painter legend (nodataU8 nodata)) (map ofU8 (take count samples)) ⌝ }
-{
-    let linear = legend.linear;
-    let categoric = legend.categoric;
-    let cmap = linear.cmap;
-    let keys = categoric.keys;
-    let colors = categoric.colors;
-    let lookup = categoric.lookup;
-    let view = legend_view::view_of(legend);
+    let samples = part::bytes(row, place::SAMPLES);
     let mut words = [0u32; 40];
     legend_scalar::apply_to_data_scalar_u8(
         view,
-        &cmap,
-        &keys,
-        &colors,
-        &lookup,
+        cmap,
+        keys,
+        colors,
+        lookup,
         &samples[..count],
         nodata,
         &mut words[..count],
@@ -81,31 +39,29 @@ fn plain(legend: Legend, samples: [u8; 40], count: usize, nodata: NodataU8) -> [
     words
 }
 
-fn lanes(
-    legend: Legend,
+pub fn lanes(
+    view: View,
+    cmap: &[u32; 256],
+    keys: &[i64; 256],
+    colors: &[u32; 256],
+    lookup: &[u32; 513],
     lanes: usize,
-    samples: [u8; 40],
+    row: &[u32; 1680],
     count: usize,
-    nodata: NodataU8,
+    nodata: Nodata,
 ) -> LaneWords
     requires { ⌜ count ≤ 40 ⌝ }
-    ensures { λ r. ⌜ r ≡ laneWords lanes (painter legend (nodataU8 nodata)) (map ofU8 (take count samples)) ⌝ }
+    ensures { λ r. ⌜ r ≡ laneWords lanes (painter (borrowedLegend view (now (cmap .entry)) (now (keys .entry)) (now (colors .entry)) (now (lookup .entry))) nodata) (samplesAs 1 count (now (row .entry))) ⌝ }
 {
-    let linear = legend.linear;
-    let categoric = legend.categoric;
-    let cmap = linear.cmap;
-    let keys = categoric.keys;
-    let colors = categoric.colors;
-    let lookup = categoric.lookup;
-    let view = legend_view::view_of(legend);
+    let samples = part::bytes(row, place::SAMPLES);
     let mut words = [0u32; 40];
     let mut scratch = [0x5c5c_5c5cu32; 16];
     legend_kernel::apply_to_data_kernel_u8(
         view,
-        &cmap,
-        &keys,
-        &colors,
-        &lookup,
+        cmap,
+        keys,
+        colors,
+        lookup,
         lanes,
         &samples[..count],
         nodata,
@@ -113,24 +69,4 @@ fn lanes(
         &mut scratch,
     );
     LaneWords { words, scratch }
-}
-
-pub fn painted(legend: Legend, row: &[u32; 1680]) -> Paintings
-    ensures { λ r. ⌜ r ≡ paintingsBy legend (nodataU8 (nodataByte (now (row .entry)))) (samplesU8 (now (row .entry))) ⌝ }
-{
-    let samples = part::bytes(row, place::SAMPLES);
-    let count = value::at_most(row[place::SAMPLE_COUNT], 40);
-    let none = nodata(row);
-    let values = values(legend, samples, count, none);
-    let plain = plain(legend, samples, count, none);
-    let lanes_4 = lanes(legend, 4, samples, count, none);
-    let lanes_8 = lanes(legend, 8, samples, count, none);
-    let lanes_16 = lanes(legend, 16, samples, count, none);
-    Paintings {
-        values,
-        plain,
-        lanes_4,
-        lanes_8,
-        lanes_16,
-    }
 }

@@ -1,29 +1,23 @@
 -- `f32_of_i16` meets its contract. Assumes nothing.
 use borrow.Author.Needs.{needs}
-use mathlib.Core.Path.{_≡_, refl, ap, _∙_}
-use native.Mathlib.Omega.{arith}
-use Prim.Native.Nat.{_-_}
-use mathlib.Core.List.{map}
-use lib.Ieee.{nan}
-use lib.ListN.{length, getD}
-use lib.Seq.{take-all}
+use mathlib.Core.Path.{ap, _∙_}
 use lib.IntN.{pos}
-use Rattle.cast.specs.Samples.{ofI16}
-use Rattle.lists.proofs.Filling.{Filling, filling-start, filling-turn, filling-end}
-use Rattle.painting.proofs.Lists.{lanes-list}
 use mir.Syntax.{w16}
 use mir.Facts.{toZ-ofZ}
+use Prim.Native.Nat.{_-_}
+use Rattle.cast.specs.Samples.{ofI16}
+use Rattle.legend_samples.proofs.Converting.{Converting, convert-start, convert-turn, convert-end}
 use Rattle.legend_samples.proofs.f32_of_i16.Statement.{statement}
 use Rattle.legend_samples.proofs.f32_of_i16.Tie as tie
 
 abbrev Inv-loop : tie.InvT-loop
-Inv-loop src n result₀ i₀ result i = (n ≡ length src) × Filling nan (λ k. ofI16 (getD src k (pos 0))) 256 n i result
+Inv-loop src n result₀ i₀ result i = Converting ofI16 (pos 0) src n i result
 
 abbrev μ-loop : tie.MeasureT-loop
 μ-loop src n result₀ i₀ result i = n - i
 
 loop-holds : tie.Need-loop-holds Inv-loop μ-loop
-loop-holds c = (refl, filling-start (search needs))
+loop-holds c = convert-start (search needs) (search needs)
 
 mul-i16-to-f32 : tie.Need-mul-i16-to-f32 Inv-loop μ-loop
 mul-i16-to-f32 c = search needs
@@ -47,10 +41,12 @@ loop-less : tie.Need-loop-less Inv-loop μ-loop
 loop-less c = search needs
 
 loop-again : tie.Need-loop-again Inv-loop μ-loop
-loop-again c = (refl, filling-turn (c .before .before .before .loop .inv .1) (omega arith) (omega arith) (c .i16-to-f32 .ensures ∙ ap ofI16 (toZ-ofZ {w = w16} (record { sfits = c .before .i16-to-f32-arg .given }))))
+loop-again c =
+    convert-turn (c .before .before .before .loop .inv) (search needs)
+    (c .i16-to-f32 .ensures ∙ ap ofI16 (toZ-ofZ {w = w16} (record { sfits = c .before .i16-to-f32-arg .given })))
 
 returns : tie.Need-returns Inv-loop μ-loop
-returns c = let src = c .before .before .args .src .now in let i = c .before .loop .inv .1 in lanes-list (pos 0) nan ofI16 (length src) (c .before .loop .result) src (omega (arith, i .long)) (omega arith) (filling-end i (omega arith)) ∙ ap (map ofI16) (take-all (length src) src (omega arith))
+returns c = convert-end (c .before .loop .inv) (search needs)
 
 pub f32-of-i16-spec : {M : Type 1} → statement M
 f32-of-i16-spec =

@@ -1,26 +1,19 @@
 -- `f32_of_u8` meets its contract. Assumes nothing.
 use borrow.Author.Needs.{needs}
-use mathlib.Core.Path.{_≡_, refl, ap, _∙_}
-use native.Mathlib.Omega.{arith}
 use Prim.Native.Nat.{_-_}
-use mathlib.Core.List.{map}
-use lib.Ieee.{nan}
-use lib.ListN.{length, getD}
-use lib.Seq.{take-all}
 use Rattle.cast.specs.Samples.{ofU8}
-use Rattle.lists.proofs.Filling.{Filling, filling-start, filling-turn, filling-end}
-use Rattle.painting.proofs.Lists.{lanes-list}
+use Rattle.legend_samples.proofs.Converting.{Converting, convert-start, convert-turn, convert-end}
 use Rattle.legend_samples.proofs.f32_of_u8.Statement.{statement}
 use Rattle.legend_samples.proofs.f32_of_u8.Tie as tie
 
 abbrev Inv-loop : tie.InvT-loop
-Inv-loop src n result₀ i₀ result i = (n ≡ length src) × Filling nan (λ k. ofU8 (getD src k 0)) 256 n i result
+Inv-loop src n result₀ i₀ result i = Converting ofU8 0 src n i result
 
 abbrev μ-loop : tie.MeasureT-loop
 μ-loop src n result₀ i₀ result i = n - i
 
 loop-holds : tie.Need-loop-holds Inv-loop μ-loop
-loop-holds c = (refl, filling-start (search needs))
+loop-holds c = convert-start (search needs) (search needs)
 
 shared-slice-read-u8-to-f32 : tie.Need-shared-slice-read-u8-to-f32 Inv-loop μ-loop
 shared-slice-read-u8-to-f32 c = search needs
@@ -41,10 +34,10 @@ loop-less : tie.Need-loop-less Inv-loop μ-loop
 loop-less c = search needs
 
 loop-again : tie.Need-loop-again Inv-loop μ-loop
-loop-again c = (refl, filling-turn (c .before .before .before .loop .inv .1) (omega arith) (omega arith) (c .u8-to-f32 .ensures))
+loop-again c = convert-turn (c .before .before .before .loop .inv) (search needs) (c .u8-to-f32 .ensures)
 
 returns : tie.Need-returns Inv-loop μ-loop
-returns c = let src = c .before .before .before .args .src .now in let i = c .before .loop .inv .1 in lanes-list 0 nan ofU8 (length src) (c .before .loop .result) src (omega (arith, i .long)) (omega arith) (filling-end i (omega arith)) ∙ ap (map ofU8) (take-all (length src) src (omega arith))
+returns c = convert-end (c .before .loop .inv) (search needs)
 
 pub f32-of-u8-spec : {M : Type 1} → statement M
 f32-of-u8-spec =

@@ -1,8 +1,6 @@
 -- `apply_to_data_scalar` meets its contract. Assumes nothing.
 use mathlib.Core.Path.{refl}
-use lib.ListN.{length}
-use Rattle.legend_scalar.proofs.Calls.{plainly-refused, plainly-free, plainly-done}
-use Rattle.legend_view.specs.Borrowed.{borrowedLegend}
+use Rattle.legend_scalar.proofs.Calls.{plainly-free, plainly-refused, plainly-done}
 use borrow.Author.Needs.{needs}
 use Rattle.legend_scalar.proofs.apply_to_data_scalar.Statement.{statement}
 use Rattle.legend_scalar.proofs.apply_to_data_scalar.Tie as tie
@@ -17,19 +15,27 @@ enum-told : tie.Need-enum-told
 enum-told c = search needs
 
 returns : tie.Need-returns
-returns c = let a = c .before .before .before .before .before .before .args in let legend = borrowedLegend (a .view) (a .cmap .now) (a .keys .now) (a .colors .now) (a .lookup .now) in plainly-refused legend (a .nodata) (a .src .now) (a .out .now) (length (a .src .now)) (refl) (c .before .before .before .stored-refusal .result) (c .before .before .plain-refusal .result) (c .before .before .before .stored-refusal .ensures (a .cmap .now) (a .keys .now) (a .colors .now) (a .lookup .now)) (c .before .before .plain-refusal .ensures) (c .enum-told .given .1)
+returns c =
+    let asked = c .before .before in
+    plainly-refused _ _ refl (asked .before .stored-refusal .ensures _ _ _ _) (asked .plain-refusal .ensures) (c .enum-told .given .1)
 
 enum-told-2 : tie.Need-enum-told-2
 enum-told-2 c = search needs
 
 paint-requires : tie.Need-paint-requires
-paint-requires c κs = let a = c .before .before .before .before .before .before .before .args in let legend = borrowedLegend (a .view) (a .cmap .now) (a .keys .now) (a .colors .now) (a .lookup .now) in let f = plainly-free legend (a .nodata) (a .src .now) (a .out .now) (length (a .src .now)) (refl) (c .before .before .before .before .stored-refusal .result) (c .before .before .before .plain-refusal .result) (c .before .before .before .before .stored-refusal .ensures (a .cmap .now) (a .keys .now) (a .colors .now) (a .lookup .now)) (c .before .before .before .plain-refusal .ensures) (c .before .enum-told2 .given .1) in (f .0, f .1)
+paint-requires c κs =
+    let asked = c .before .before .before in
+    plainly-free _ (asked .before .stored-refusal .ensures _ _ _ _) (asked .plain-refusal .ensures) (c .before .enum-told2 .given .1)
 
 same-length : tie.Need-same-length
 same-length c = search needs
 
 returns-2 : tie.Need-returns-2
-returns-2 c = let a = c .before .before .before .before .before .before .before .before .before .before .args in let legend = borrowedLegend (a .view) (a .cmap .now) (a .keys .now) (a .colors .now) (a .lookup .now) in plainly-done legend (a .nodata) (a .src .now) (a .out .now) (length (a .src .now)) (refl) (c .before .before .before .before .before .before .before .stored-refusal .result) (c .before .before .before .before .before .before .plain-refusal .result) (c .before .before .before .before .before .before .before .stored-refusal .ensures (a .cmap .now) (a .keys .now) (a .colors .now) (a .lookup .now)) (c .before .before .before .before .before .before .plain-refusal .ensures) (c .before .before .before .before .enum-told2 .given .1) (c .before .before .paint .ensures)
+returns-2 c =
+    let told = c .before .before .before .before in
+    let asked = told .before .before in
+    plainly-done _ _ refl (asked .before .stored-refusal .ensures _ _ _ _) (asked .plain-refusal .ensures) (told .enum-told2 .given .1)
+    (c .before .before .paint .ensures)
 
 pub apply-to-data-scalar-spec : {M : Type 1} → statement M
 apply-to-data-scalar-spec =

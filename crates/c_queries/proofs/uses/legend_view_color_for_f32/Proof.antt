@@ -1,9 +1,6 @@
 -- `uses::legend_view_color_for_f32` meets its contract. Assumes nothing.
-use mathlib.Core.Path.{_∙_}
-use Rattle.legend_pixel.specs.Values.{colorForValue}
-use Rattle.c_answers.specs.Uses.{pixelToC}
-use Rattle.c_types.proofs.Naming.{with-both}
-use Rattle.legend_view.specs.Borrowed.{borrowedLegend}
+use mathlib.Core.Path.{refl}
+use Rattle.c_queries.proofs.Coloring.{color-is}
 use borrow.Author.Needs.{needs}
 use Rattle.c_queries.proofs.uses.legend_view_color_for_f32.Statement.{statement}
 use Rattle.c_queries.proofs.uses.legend_view_color_for_f32.Tie as tie
@@ -24,7 +21,10 @@ pixel-to-c-requires : tie.Need-pixel-to-c-requires
 pixel-to-c-requires c κs = search needs
 
 returns : tie.Need-returns
-returns c = let a = c .before .before .before .before .before .args in with-both pixelToC (c .pixel-to-c .ensures) (c .before .use-refusal .ensures) (c .before .before .color-for-value .ensures ∙ (λ j. colorForValue (borrowedLegend (c .before .before .before .before .view-from-c .ensures j) (a .cmap .now) (a .keys .now) (a .colors .now) (a .lookup .now)) (c .before .before .before .nodata-if .ensures j) (c .before .before .before .before .before .args .value)))
+returns c =
+    let made = c .before .before .before in
+    color-is _ _ _ _ (c .pixel-to-c .ensures) (c .before .use-refusal .ensures) (c .before .before .color-for-value .ensures)
+    (made .before .view-from-c .ensures) (made .nodata-if .ensures) refl
 
 pub legend-view-color-for-f32-spec : {M : Type 1} → statement M
 legend-view-color-for-f32-spec =

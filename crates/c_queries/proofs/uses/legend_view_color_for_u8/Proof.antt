@@ -1,11 +1,7 @@
 -- `uses::legend_view_color_for_u8` meets its contract. Assumes nothing.
-use mathlib.Core.Path.{_∙_}
-use Rattle.cast.specs.Samples.{ofU8}
-use Rattle.legend_pixel.specs.Values.{colorForValue}
-use Rattle.c_answers.specs.Uses.{pixelToC}
-use Rattle.c_types.proofs.Naming.{with-both}
-use Rattle.cast.specs.Nodata.{nodataU8}
-use Rattle.legend_view.specs.Borrowed.{borrowedLegend}
+use mathlib.Core.Path.{ap, _∙_}
+use Rattle.c_types.specs.Samples.{nodataIf}
+use Rattle.c_queries.proofs.Coloring.{color-is}
 use borrow.Author.Needs.{needs}
 use Rattle.c_queries.proofs.uses.legend_view_color_for_u8.Statement.{statement}
 use Rattle.c_queries.proofs.uses.legend_view_color_for_u8.Tie as tie
@@ -13,11 +9,17 @@ use Rattle.c_queries.proofs.uses.legend_view_color_for_u8.Tie as tie
 view-from-c-requires : tie.Need-view-from-c-requires
 view-from-c-requires c κs = search needs
 
-nodata-if-u8-requires : tie.Need-nodata-if-u8-requires
-nodata-if-u8-requires c κs = search needs
+u8-to-f32-requires : tie.Need-u8-to-f32-requires
+u8-to-f32-requires c κs = search needs
 
-color-for-value-u8-requires : tie.Need-color-for-value-u8-requires
-color-for-value-u8-requires c κs = search needs
+u8-to-f32-requires-2 : tie.Need-u8-to-f32-requires-2
+u8-to-f32-requires-2 c κs = search needs
+
+nodata-if-requires : tie.Need-nodata-if-requires
+nodata-if-requires c κs = search needs
+
+color-for-value-requires : tie.Need-color-for-value-requires
+color-for-value-requires c κs = search needs
 
 use-refusal-requires : tie.Need-use-refusal-requires
 use-refusal-requires c κs = search needs
@@ -26,15 +28,23 @@ pixel-to-c-requires : tie.Need-pixel-to-c-requires
 pixel-to-c-requires c κs = search needs
 
 returns : tie.Need-returns
-returns c = let a = c .before .before .before .before .before .args in with-both pixelToC (c .pixel-to-c .ensures) (c .before .use-refusal .ensures) (c .before .before .color-for-value-u8 .ensures ∙ (λ j. colorForValue (borrowedLegend (c .before .before .before .before .view-from-c .ensures j) (a .cmap .now) (a .keys .now) (a .colors .now) (a .lookup .now)) (nodataU8 (c .before .before .before .nodata-if-u8 .ensures j)) (ofU8 (c .before .before .before .before .before .args .value))))
+returns c =
+    let made = c .before .before .before in
+    let sample = made .before .before in
+    let start = sample .before .before in
+    color-is _ _ _ _ (c .pixel-to-c .ensures) (c .before .use-refusal .ensures) (c .before .before .color-for-value .ensures)
+    (sample .before .view-from-c .ensures) (made .nodata-if .ensures ∙ ap (nodataIf (start .args .nodata-given)) (made .before .u8-to-f322 .ensures))
+    (sample .u8-to-f32 .ensures)
 
 pub legend-view-color-for-u8-spec : {M : Type 1} → statement M
 legend-view-color-for-u8-spec =
     tie.close
     (tie.spec
     view-from-c-requires
-    nodata-if-u8-requires
-    color-for-value-u8-requires
+    u8-to-f32-requires
+    u8-to-f32-requires-2
+    nodata-if-requires
+    color-for-value-requires
     use-refusal-requires
     pixel-to-c-requires
     returns)

@@ -1,49 +1,91 @@
--- `painted` meets its contract. Assumes nothing.
-use Prim.Native.Nat.{ℕ, _-_}
-use mathlib.Core.Path.{sym, ap, _∙_}
-use Rattle.replay_paintings.specs.Paintings.{paintingsIn}
-use Rattle.replay_paintings.proofs.Painting.{other-type}
+-- `paint::painted` meets its contract. Assumes nothing.
 use borrow.Author.Needs.{needs}
+use Prim.Native.Nat.{_≤_}
+use lib.ListN.{getD}
+use Rattle.replay_paintings.proofs.Painting.{at-most-40, all-are}
 use Rattle.replay_paintings.proofs.paint.painted.Statement.{statement}
 use Rattle.replay_paintings.proofs.paint.painted.Tie as tie
 
-element-copy-out-match : tie.Need-element-copy-out-match
-element-copy-out-match c = search needs
+view-of-requires : tie.Need-view-of-requires
+view-of-requires c κs = search needs
 
-painted-requires : tie.Need-painted-requires
-painted-requires c κs = search needs
+floats-requires : tie.Need-floats-requires
+floats-requires c κs = search needs
 
-painted-requires-2 : tie.Need-painted-requires-2
-painted-requires-2 c κs = search needs
+element-copy-out-at-most : tie.Need-element-copy-out-at-most
+element-copy-out-at-most c = search needs
 
-painted-requires-3 : tie.Need-painted-requires-3
-painted-requires-3 c κs = search needs
+at-most-requires : tie.Need-at-most-requires
+at-most-requires c κs = search needs
+
+nodata-requires : tie.Need-nodata-requires
+nodata-requires c κs = search needs
+
+-- what every painting asks
+few : (c : tie.After-nodata) → c .before .at-most .result ≤ 40
+few c =
+    let lent = c .before .before .before .before in
+    let a = lent .before .before .before .before .before .before .before .args in
+    at-most-40 (getD (a .row .now) 9 0) (c .before .at-most .ensures)
+
+values-requires : tie.Need-values-requires
+values-requires c κs = few (c .before .before .before .before)
+
+plain-requires : tie.Need-plain-requires
+plain-requires c κs =
+    let values = c .before .before .before .before in
+    let known = values .before .before .before .before .before in
+    few known
+
+lanes-requires : tie.Need-lanes-requires
+lanes-requires c κs =
+    let plain = c .before .before .before .before in
+    let values = plain .before .before .before .before .before in
+    let known = values .before .before .before .before .before in
+    few known
+
+lanes-requires-2 : tie.Need-lanes-requires-2
+lanes-requires-2 c κs =
+    let four = c .before .before .before .before in
+    let plain = four .before .before .before .before .before in
+    let values = plain .before .before .before .before .before in
+    let known = values .before .before .before .before .before in
+    few known
+
+lanes-requires-3 : tie.Need-lanes-requires-3
+lanes-requires-3 c κs =
+    let eight = c .before .before .before .before in
+    let four = eight .before .before .before .before .before in
+    let plain = four .before .before .before .before .before in
+    let values = plain .before .before .before .before .before in
+    let known = values .before .before .before .before .before in
+    few known
 
 returns : tie.Need-returns
-unfolding paintingsIn
 returns c =
-    let s3 = c .before .before .before in
-    let a = s3 .args in c .painted .ensures ∙ sym (ap (λ (t : ℕ). paintingsIn t (a .legend) (a .row .now)) (c .before .match .keys1))
-
-returns-2 : tie.Need-returns-2
-unfolding paintingsIn
-returns-2 c =
-    let s3 = c .before .before .before in
-    let a = s3 .args in c .painted2 .ensures ∙ sym (ap (λ (t : ℕ). paintingsIn t (a .legend) (a .row .now)) (c .before .match .keys2))
-
-returns-3 : tie.Need-returns-3
-returns-3 c =
-    let s3 = c .before .before .before in
-    let a = s3 .args in let n = c .before .match .rest in c .painted3 .ensures ∙ sym (other-type _ (a .legend) (a .row .now) (n .0 .1) (n .1))
+    let eight = c .before .before .before .before .before in
+    let four = eight .before .before .before .before .before in
+    let plain = four .before .before .before .before .before in
+    let values = plain .before .before .before .before .before in
+    let known = values .before .before .before .before .before in
+    let floats = known .before .before .before in
+    let lent = floats .before in
+    let a = lent .before .before .before .before .before .before .before .args in
+    all-are (a .legend) (a .row .now) (lent .view-of .ensures) (known .before .at-most .ensures) (known .nodata .ensures) (floats .floats .ensures)
+    (values .values .ensures) (plain .plain .ensures) (four .lanes .ensures) (eight .lanes2 .ensures) (c .lanes3 .ensures)
 
 pub painted-spec : {M : Type 1} → statement M
 painted-spec =
     tie.close
     (tie.spec
-    element-copy-out-match
-    painted-requires
-    painted-requires-2
-    painted-requires-3
-    returns
-    returns-2
-    returns-3)
+    view-of-requires
+    floats-requires
+    element-copy-out-at-most
+    at-most-requires
+    nodata-requires
+    values-requires
+    plain-requires
+    lanes-requires
+    lanes-requires-2
+    lanes-requires-3
+    returns)

@@ -1,50 +1,45 @@
--- `plain` meets its contract. Assumes nothing.
-use Prim.Native.Nat.{_-_}
-use mathlib.Core.Path.{sym, refl, _∙_}
-use lib.ListN.{take, length-map}
-use mathlib.Core.List.{map}
+-- `raster_u8::plain` meets its contract. Assumes nothing.
+use mathlib.Core.Path.{refl}
+use Prim.Native.Nat.{_%_}
 use Rattle.cast.specs.Samples.{ofU8}
-use Rattle.cast.specs.Nodata.{nodataU8}
-use Rattle.replay_paintings.proofs.Painting.{taken, plain-is, plainly}
+use Rattle.replay_paintings.specs.Samples.{sampleOf}
+use Rattle.replay_paintings.proofs.Painting.{taken, converted, plain-is}
 use borrow.Author.Needs.{needs}
 use Rattle.replay_paintings.proofs.raster_u8.plain.Statement.{statement}
 use Rattle.replay_paintings.proofs.raster_u8.plain.Tie as tie
 
-view-of-requires : tie.Need-view-of-requires
-view-of-requires c κs = search needs
+bytes-requires : tie.Need-bytes-requires
+bytes-requires c κs = search needs
 
 array-share-prefix-samples : tie.Need-array-share-prefix-samples
 array-share-prefix-samples c = search needs
 
 slice-aggregate-apply-to-data-scalar-u8 : tie.Need-slice-aggregate-apply-to-data-scalar-u8
-slice-aggregate-apply-to-data-scalar-u8 c =
-    let s12 = c .before .before .before .before .before .before .before .before .before .before .before .before in
-    let a = s12 .args in taken (a .count) (a .t2) (search needs) (search needs)
+slice-aggregate-apply-to-data-scalar-u8 c = taken _ (c .before .bytes .result) (search needs) (search needs)
 
 array-borrow-prefix-words : tie.Need-array-borrow-prefix-words
 array-borrow-prefix-words c = search needs
 
 slice-aggregate-apply-to-data-scalar-u8-2 : tie.Need-slice-aggregate-apply-to-data-scalar-u8-2
-slice-aggregate-apply-to-data-scalar-u8-2 c =
-    let s13 = c .before .before .before .before .before .before .before .before .before .before .before .before .before in
-    let a = s13 .args in taken (a .count) _ refl (search needs)
+slice-aggregate-apply-to-data-scalar-u8-2 c = taken _ _ refl (search needs)
 
 apply-to-data-scalar-u8-requires : tie.Need-apply-to-data-scalar-u8-requires
 apply-to-data-scalar-u8-requires c κs = search needs
 
 returns : tie.Need-returns
+unfolding sampleOf
 returns c =
-    let s8 = c .before .before .before .before .before .before .before .before in
-    let s15 = s8 .before .before .before .before .before .before .before in
-    let a = s15 .args in
-    plain-is (a .count) (map ofU8 (take (a .count) (a .t2))) (search needs) (length-map (take (a .count) (a .t2)) ofU8
-    ∙ sym (taken (a .count) (a .t2) (search needs) (search needs))) (plainly (a .legend) (nodataU8 (a .nodata)) (s8 .view-of .ensures) (c .before .apply-to-data-scalar-u8 .ensures))
+    let painted = c .before in
+    let read = painted .before .before .before in
+    let s = read .before in
+    plain-is 1 (s .args .count) (s .args .row .now) (s .pre)
+    (converted ofU8 (λ w. w % 256) (s .args .count) (s .args .row .now) (read .bytes .ensures)) (painted .apply-to-data-scalar-u8 .ensures)
 
 pub plain-spec : {M : Type 1} → statement M
 plain-spec =
     tie.close
     (tie.spec
-    view-of-requires
+    bytes-requires
     array-share-prefix-samples
     slice-aggregate-apply-to-data-scalar-u8
     array-borrow-prefix-words
