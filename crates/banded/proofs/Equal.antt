@@ -26,17 +26,22 @@ unfolding rampColors
 ramp-count count cmap = length-tabulate count _
 
 -- the array holds the colours, then zeros
-module _ (count : ℕ) (start end : Float) (colors : List ℕ) {given : ℕ} {a : Answer} (g : given ≡ length colors) (e : a ≡ equalRefusal count start end given) where
-  answered : a ≡ equalRefusal count start end (length colors)
-  answered = e ∙ ap (equalRefusal count start end) g
+module _ (count : ℕ) (start end : Float) (colors : List ℕ) {given : ℕ} {a : Answer} (g : given ≡ length colors) (e : a ≡ equalRefusal count start end given)
+  where
+    answered : a ≡ equalRefusal count start end (length colors)
+    answered = e ∙ ap (equalRefusal count start end) g
 
-  pub equal-refused : {why : Refusal} {r : Banded} → a ≡ Refused why → r ≡ bandedOf [] → _≡_ {A = MadeBanded} (record { answer = a; banded = r }) (withEqualBands count start end colors)
-  unfolding withEqualBands
-  equal-refused f h = refused (bandedOf (equalBands count start end colors)) answered f h
+    pub equal-refused : {why : Refusal} {r : Banded} → a ≡ Refused why → r ≡ bandedOf [] → _≡_ {A =
+        MadeBanded} (record { answer = a; banded = r }) (withEqualBands count start end colors)
+    unfolding withEqualBands
+    equal-refused f h = refused (bandedOf (equalBands count start end colors)) answered f h
 
-  pub equal-made : {array : List ℕ} {r : List LegendBand} → a ≡ Done → array ≡ padded 0 256 colors → r ≡ paddedBands (equalBands count start end array) → _≡_ {A = MadeBanded} (record { answer = a; banded = record { bands = r; count = count } }) (withEqualBands count start end colors)
-  unfolding withEqualBands
-  equal-made f p h =
-      made (bandedOf (equalBands count start end colors)) answered f
-      (record-of (equalBands count start end colors) (equal-length count start end colors)
-      (h ∙ ap (λ (xs : List ℕ). paddedBands (equalBands count start end xs)) p ∙ ap paddedBands (equal-padded count start end colors (equal-same count start end (length colors) (sym answered ∙ f)))))
+    pub equal-made : {array : List ℕ} {r : List LegendBand} → a ≡ Done → array ≡ padded 0 256 colors → r ≡ paddedBands (equalBands count start end array)
+        → _≡_ {A =
+        MadeBanded} (record { answer = a; banded = record { bands = r; count = count } }) (withEqualBands count start end colors)
+    unfolding withEqualBands
+    equal-made f p h =
+        made (bandedOf (equalBands count start end colors)) answered f
+        (record-of (equalBands count start end colors) (equal-length count start end colors)
+        (h ∙ ap (λ (xs : List ℕ). paddedBands (equalBands count start end xs)) p
+        ∙ ap paddedBands (equal-padded count start end colors (equal-same count start end (length colors) (sym answered ∙ f)))))

@@ -30,7 +30,8 @@ all-more : (xs ys : List LegendBand) → length xs + length ys ≤ 64 → folded
 unfolding folded
 all-more xs [] l = ap bandedOf (sym (append-nil xs))
 all-more xs (b ∷ ys) l =
-    ap (λ (x : Banded). folded withBand x ys) (one-more xs b (omega (arith, l))) ∙ all-more (xs ++ (b ∷ [])) ys (omega (arith, l, length-append xs (b ∷ []))) ∙ ap bandedOf (append-assoc xs (b ∷ []) ys)
+    ap (λ (x : Banded). folded withBand x ys) (one-more xs b (omega (arith, l))) ∙ all-more (xs ++ (b ∷ [])) ys (omega (arith, l, length-append xs (b ∷ [])))
+    ∙ ap bandedOf (append-assoc xs (b ∷ []) ys)
 
 -- what `new` answers
 pub is-given : (ys : List LegendBand) → beside (givenRefusal (length ys)) (folded withBand (bandedOf []) (take (min (length ys) 64) ys)) ≡ withBandsGiven ys
@@ -40,6 +41,8 @@ is-given ys = by-test (ltb 64 (length ys)) refl
     all : length ys ≤ 64 → take (min (length ys) 64) ys ≡ ys
     all l = let e : min (length ys) 64 ≡ length ys = omega arith in ap (λ (k : ℕ). take k ys) e ∙ take-length ys
 
-    by-test : (t : Bool) → ltb 64 (length ys) ≡ t → beside (refuseIf t TooManyBands Done) (folded withBand (bandedOf []) (take (min (length ys) 64) ys)) ≡ beside (refuseIf t TooManyBands Done) (bandedOf ys)
+    by-test : (t : Bool) → ltb 64 (length ys) ≡ t → beside (refuseIf t TooManyBands Done) (folded withBand (bandedOf []) (take (min (length ys) 64) ys))
+        ≡ beside (refuseIf t TooManyBands Done) (bandedOf ys)
     by-test true e = refl
-    by-test false e = ap (beside Done) (ap (folded withBand (bandedOf [])) (all (ltb-false 64 (length ys) e)) ∙ all-more [] ys (omega (arith, ltb-false 64 (length ys) e)))
+    by-test false e =
+        ap (beside Done) (ap (folded withBand (bandedOf [])) (all (ltb-false 64 (length ys) e)) ∙ all-more [] ys (omega (arith, ltb-false 64 (length ys) e)))

@@ -24,11 +24,14 @@ module _ (values : ValueRanges) (colors : List ℕ) {given : ℕ} {a : Answer} (
   answered : a ≡ manualRefusal values (length colors)
   answered = e ∙ ap (manualRefusal values) g
 
-  pub manual-refused : {why : Refusal} {r : Banded} → a ≡ Refused why → r ≡ bandedOf [] → _≡_ {A = MadeBanded} (record { answer = a; banded = r }) (withManualRanges values colors)
+  pub manual-refused : {why : Refusal} {r : Banded} → a ≡ Refused why → r ≡ bandedOf [] → _≡_ {A =
+      MadeBanded} (record { answer = a; banded = r }) (withManualRanges values colors)
   unfolding withManualRanges
   manual-refused f h = refused (bandedOf (rangeBands (rangesOf values) colors)) answered f h
 
-  pub manual-made : {array : List ℕ} {r : List LegendBand} → a ≡ Done → array ≡ padded 0 256 colors → (r ≡ paddedBands (rangeBands (rangesOf values) array)) × (length (rangeBands (rangesOf values) array) ≡ values .count) → _≡_ {A = MadeBanded} (record { answer = a; banded = record { bands = r; count = values .count } }) (withManualRanges values colors)
+  pub manual-made : {array : List ℕ} {r : List LegendBand} → a ≡ Done → array ≡ padded 0 256 colors → (r ≡ paddedBands (rangeBands (rangesOf values) array))
+      × (length (rangeBands (rangesOf values) array) ≡ values .count)
+      → _≡_ {A = MadeBanded} (record { answer = a; banded = record { bands = r; count = values .count } }) (withManualRanges values colors)
   unfolding withManualRanges
   manual-made f p (h, n) =
       let s = manual-same values (length colors) (sym answered ∙ f) in

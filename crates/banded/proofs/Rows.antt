@@ -60,7 +60,8 @@ pub offset-fits : {n : ℕ} → Room Band n → (i : ℕ) → i < n → i * 12 <
 offset-fits room i l = omega (arith, room .1)
 
 -- ---- the test of a `while`: the turn goes on, or the loop is left
-module _ {M : Type 1} {𝓤 : URA M} {H : Heap 𝓤} {A : Atoms 𝓤} {K : Type 0} {W : Given 𝓤 H A} {Γ : List (Item 𝓤)} {E : Env 𝓤 H} {C : Calls 𝓤 H} {Λ : Loops 𝓤 H} {q : Post 𝓤 H} where
+module _ {M : Type 1} {𝓤 : URA M} {H : Heap 𝓤} {A : Atoms 𝓤} {K : Type 0} {W : Given 𝓤 H A} {Γ : List (Item 𝓤)} {E : Env 𝓤 H} {C : Calls 𝓤 H} {Λ : Loops 𝓤 H}
+    {q : Post 𝓤 H} where
   pub tests : K → {c : Operand} {n : ℕ} {b : Body} {y : Bool} → Opd K W Γ E c (vbool y)
       → (Holds y → Seq K W Γ (runs C Λ E b q)) → (Holds (not y) → Seq K W Γ (prop (post 𝓤 H q (exits n))))
       → Seq K W Γ (runs C Λ E (seq (cond c skip (exit n)) b) q)

@@ -1,4 +1,5 @@
--- The record of a banded legend, what a builder gives, and which stored counts are refused (docs/RULES.md, "Where each call says no" and "Banded"). Definitions only.
+-- The record of a banded legend, what a builder gives, and which stored counts are refused (docs/RULES.md, "Where each call says no" and "Banded"). Definitions
+-- only.
 use Prim.Native.Nat.{ℕ}
 use mathlib.Core.List.{List, []}
 use lib.Dec.{ltb}

@@ -25,7 +25,7 @@ pub struct BandedPaint {
     pub exclusions: Exclusions,
 }
 
-// ---- sixteen words by the plain rule: of all bands, or of the one at each sample's place
+// ---- sixteen words by the plain rule: of all bands, or of the one at each sample's index
 
 fn words_plain(
     starts: &[f32; 64],
@@ -35,7 +35,8 @@ fn words_plain(
     v: [f32; 16],
 ) -> [u32; 16]
     requires { ⌜ p .count ≤ 64 ⌝ }
-    ensures { λ d. ⌜ LanesOf 0 16 (λ k. plainSample (fromColumns (now (starts .entry)) (now (ends .entry)) (now (colors .entry)) (p .count)) p (getD v k nan)) d ⌝ }
+    ensures { λ d. ⌜ LanesOf 0 16 (λ k. plainSample (fromColumns (now (starts .entry)) (now (ends .entry)) (now (colors .entry)) (p .count)) p (getD v k nan)) d
+        ⌝ }
 {
     let c = banded_rule::colors_for_numeric_values(starts, ends, colors, p.count, p.unmappable, v);
     p.exclusions.masked_simd(16, v, p.unmappable.nodata, c)
@@ -49,7 +50,8 @@ fn words_searched(
     v: [f32; 16],
 ) -> [u32; 16]
     requires { ⌜ (p .count ≤ 64) × (ascendingDisjoint (fromColumns (now starts) (now ends) (now colors) (p .count)) ≡ true) ⌝ }
-    ensures { λ d. ⌜ LanesOf 0 16 (λ k. plainSample (fromColumns (now (starts .entry)) (now (ends .entry)) (now (colors .entry)) (p .count)) p (getD v k nan)) d ⌝ }
+    ensures { λ d. ⌜ LanesOf 0 16 (λ k. plainSample (fromColumns (now (starts .entry)) (now (ends .entry)) (now (colors .entry)) (p .count)) p (getD v k nan)) d
+        ⌝ }
 {
     let c = banded_search::colors_for_numeric_values(
         starts,
@@ -72,7 +74,8 @@ pub fn words(
     v: [f32; 16],
 ) -> [u32; 16]
     requires { ⌜ (p .count ≤ 64) × (search ≡ true → ascendingDisjoint (fromColumns (now starts) (now ends) (now colors) (p .count)) ≡ true) ⌝ }
-    ensures { λ d. ⌜ LanesOf 0 16 (λ k. plainSample (fromColumns (now (starts .entry)) (now (ends .entry)) (now (colors .entry)) (p .count)) p (getD v k nan)) d ⌝ }
+    ensures { λ d. ⌜ LanesOf 0 16 (λ k. plainSample (fromColumns (now (starts .entry)) (now (ends .entry)) (now (colors .entry)) (p .count)) p (getD v k nan)) d
+        ⌝ }
 {
     if search {
         return words_searched(starts, ends, colors, p, v);
@@ -136,7 +139,7 @@ fn words16(
     p.exclusions.masked_simd(16, v, p.unmappable.nodata, c)
 }
 
-// ---- the same by a search: the scan is what stands at the lanes' places
+// ---- the same by a search: the scan is what stands at the lanes' indices
 
 fn words4_searched(
     starts: &[f32; 64],
@@ -148,10 +151,10 @@ fn words4_searched(
     requires { ⌜ (p .count ≤ 64) × Searchable (now starts) (now ends) (now colors) (p .count) ⌝ }
     ensures { λ d. ⌜ d ≡ padded 0 16 (laneChunk (fromColumns (now (starts .entry)) (now (ends .entry)) (now (colors .entry)) (p .count)) p (take 4 v)) ⌝ }
 {
-    let places = indices::band_indices(4, starts, p.count, v);
+    let indices = indices::band_indices(4, starts, p.count, v);
     let unheld = [p.unmappable.nodata; 16];
-    let held = banded_search::colors_at(4, starts, ends, colors, places, v, unheld);
-    let all = banded_search::all_held(4, starts, ends, places, v);
+    let held = banded_search::colors_at(4, starts, ends, colors, indices, v, unheld);
+    let all = banded_search::all_held(4, starts, ends, indices, v);
     let scan = Scan {
         colors: held,
         finished: all,
@@ -170,10 +173,10 @@ fn words8_searched(
     requires { ⌜ (p .count ≤ 64) × Searchable (now starts) (now ends) (now colors) (p .count) ⌝ }
     ensures { λ d. ⌜ d ≡ padded 0 16 (laneChunk (fromColumns (now (starts .entry)) (now (ends .entry)) (now (colors .entry)) (p .count)) p (take 8 v)) ⌝ }
 {
-    let places = indices::band_indices(8, starts, p.count, v);
+    let indices = indices::band_indices(8, starts, p.count, v);
     let unheld = [p.unmappable.nodata; 16];
-    let held = banded_search::colors_at(8, starts, ends, colors, places, v, unheld);
-    let all = banded_search::all_held(8, starts, ends, places, v);
+    let held = banded_search::colors_at(8, starts, ends, colors, indices, v, unheld);
+    let all = banded_search::all_held(8, starts, ends, indices, v);
     let scan = Scan {
         colors: held,
         finished: all,
@@ -192,10 +195,10 @@ fn words16_searched(
     requires { ⌜ (p .count ≤ 64) × Searchable (now starts) (now ends) (now colors) (p .count) ⌝ }
     ensures { λ d. ⌜ d ≡ padded 0 16 (laneChunk (fromColumns (now (starts .entry)) (now (ends .entry)) (now (colors .entry)) (p .count)) p (take 16 v)) ⌝ }
 {
-    let places = indices::band_indices(16, starts, p.count, v);
+    let indices = indices::band_indices(16, starts, p.count, v);
     let unheld = [p.unmappable.nodata; 16];
-    let held = banded_search::colors_at(16, starts, ends, colors, places, v, unheld);
-    let all = banded_search::all_held(16, starts, ends, places, v);
+    let held = banded_search::colors_at(16, starts, ends, colors, indices, v, unheld);
+    let all = banded_search::all_held(16, starts, ends, indices, v);
     let scan = Scan {
         colors: held,
         finished: all,
@@ -226,7 +229,8 @@ pub fn chunk(
     out: &mut [u32],
 )
     requires { ⌜ (p .count ≤ 64) × (laneCount l ≡ true) × (base + l ≤ length (now src)) × (base + l ≤ length (now out)) ⌝ }
-    ensures { λ _. ⌜ now (out .exit) ≡ chunkOver (laneChunk (fromColumns (now (starts .entry)) (now (ends .entry)) (now (colors .entry)) (p .count)) p) (now (src .entry)) (now (out .entry)) base l ⌝ }
+    ensures { λ _. ⌜ now (out .exit) ≡ chunkOver (laneChunk (fromColumns (now (starts .entry)) (now (ends .entry)) (now (colors .entry)) (p .count)) p)
+        (now (src .entry)) (now (out .entry)) base l ⌝ }
 {
     if l == 4 {
         let v = painting::load(4, src, base);
@@ -252,8 +256,10 @@ pub fn chunk_searched(
     base: usize,
     out: &mut [u32],
 )
-    requires { ⌜ (p .count ≤ 64) × Searchable (now starts) (now ends) (now colors) (p .count) × (laneCount l ≡ true) × (base + l ≤ length (now src)) × (base + l ≤ length (now out)) ⌝ }
-    ensures { λ _. ⌜ now (out .exit) ≡ chunkOver (laneChunk (fromColumns (now (starts .entry)) (now (ends .entry)) (now (colors .entry)) (p .count)) p) (now (src .entry)) (now (out .entry)) base l ⌝ }
+    requires { ⌜ (p .count ≤ 64) × Searchable (now starts) (now ends) (now colors) (p .count) × (laneCount l ≡ true) × (base + l ≤ length (now src))
+        × (base + l ≤ length (now out)) ⌝ }
+    ensures { λ _. ⌜ now (out .exit) ≡ chunkOver (laneChunk (fromColumns (now (starts .entry)) (now (ends .entry)) (now (colors .entry)) (p .count)) p)
+        (now (src .entry)) (now (out .entry)) base l ⌝ }
 {
     if l == 4 {
         let v = painting::load(4, src, base);

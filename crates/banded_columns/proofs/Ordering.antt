@@ -36,9 +36,11 @@ after a [] q r = tt
 after a (b ∷ bs) q r =
     let starts : T (startsBelowEnd a) = and-l (startsBelowEnd a) (eachBand startsBelowEnd (b ∷ bs)) q in
     let later : T (eachBand startsBelowEnd (b ∷ bs)) = and-r (startsBelowEnd a) (eachBand startsBelowEnd (b ∷ bs)) q in
-    let e : T (le (a .end) (b .start)) = end-start a b starts (and-l (startsBelowEnd b) (eachBand startsBelowEnd bs) later) (and-l (clears a b) (eachAfter clears b bs) r) in
+    let e : T (le (a .end) (b .start)) = end-start a b starts (and-l (startsBelowEnd b) (eachBand startsBelowEnd bs) later)
+    (and-l (clears a b) (eachAfter clears b bs) r) in
     let s : T (lt (a .start) (b .start)) = lt-le (a .start) (a .end) (b .start) starts e in
-    and-i (startsAscend a b) (eachAfter startsAscend b bs) (not-T (lt (b .start) (a .start)) (λ (h : T (lt (b .start) (a .start))). lt-not-le (b .start) (a .start) h (lt→le (a .start) (b .start) s)))
+    and-i (startsAscend a b) (eachAfter startsAscend b bs)
+    (not-T (lt (b .start) (a .start)) (λ (h : T (lt (b .start) (a .start))). lt-not-le (b .start) (a .start) h (lt→le (a .start) (b .start) s)))
     (after b bs later (and-r (clears a b) (eachAfter clears b bs) r))
 
 pub disjoint-ascends : (bands : List LegendBand) → T (ascendingDisjoint bands) → T (eachNext startsAscend bands)
@@ -65,7 +67,8 @@ module _ (test : LegendBand → Bool) where
   pub each-more : (n : ℕ) (f : ℕ → LegendBand) → eachBand test (tabulate (suc n) f) ≡ (eachBand test (tabulate n f) && test (f n))
   unfolding tabulate eachBand
   each-more zero f = and-true (test (f 0))
-  each-more (suc n) f = ap (λ (b : Bool). test (f 0) && b) (each-more n (λ k. f (suc k))) ∙ and-and (test (f 0)) (eachBand test (tabulate n (λ k. f (suc k)))) (test (f (suc n)))
+  each-more (suc n) f =
+      ap (λ (b : Bool). test (f 0) && b) (each-more n (λ k. f (suc k))) ∙ and-and (test (f 0)) (eachBand test (tabulate n (λ k. f (suc k)))) (test (f (suc n)))
 
 module _ (test : LegendBand → LegendBand → Bool) where
   abbrev later : ℕ → (ℕ → LegendBand) → List LegendBand

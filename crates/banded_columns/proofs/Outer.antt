@@ -22,7 +22,8 @@ module _ (z : LegendBand) (other : ℕ) where
 
   last-is : (xs : List LegendBand) → 0 < length xs → lastColorOr xs other ≡ getD xs (length xs - 1) z .color
   last-is [] g = absurd (omega arith)
-  last-is (x ∷ xs) g = let e : length xs ≡ length (x ∷ xs) - 1 = omega arith in ap (λ (b : LegendBand). b .color) (last-of x xs ∙ ap (λ (k : ℕ). getD (x ∷ xs) k z) e)
+  last-is (x ∷ xs) g =
+      let e : length xs ≡ length (x ∷ xs) - 1 = omega arith in ap (λ (b : LegendBand). b .color) (last-of x xs ∙ ap (λ (k : ℕ). getD (x ∷ xs) k z) e)
 
   pub last-at : (l n : ℕ) (xs : List LegendBand) → 0 < n → 0 < l → length xs ≡ l → lastColorOr (take n xs) other ≡ getD xs (min n l - 1) z .color
   last-at l n xs h g e =

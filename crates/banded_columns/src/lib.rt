@@ -26,7 +26,7 @@ impl LegendBand {
 
 // ---- columns
 
-// The starts of the bands: the painters lend numbers to their loops, once a painting.
+// The starts of the bands: the painters lend numbers to their loops, once per painting.
 pub fn starts_of(bands: [LegendBand; 64]) -> [f32; 64]
     ensures { λ r. ⌜ r ≡ map (λ (b : LegendBand). b .start) bands ⌝ }
 {

@@ -60,7 +60,8 @@ values-kept (b ∷ bs) ls = go (allInside (map (over b) ls)) (values-kept bs (ma
     once = map-map (λ (l : Lane). l .value) (over b) ls ∙ map-same (λ (l : Lane). over b l .value) (λ (l : Lane). l .value) ls (kept b)
 
     go : (t : Bool) → map (λ (l : Lane). l .value) (swept bs (map (over b) ls) .lanes) ≡ map (λ (l : Lane). l .value) (map (over b) ls) →
-        map (λ (l : Lane). l .value) (cond t (record { finished = true; lanes = map (over b) ls }) (swept bs (map (over b) ls)) .lanes) ≡ map (λ (l : Lane). l .value) ls
+        map (λ (l : Lane). l .value) (cond t (record { finished = true; lanes = map (over b) ls }) (swept bs (map (over b) ls)) .lanes)
+        ≡ map (λ (l : Lane). l .value) ls
     go true e = once
     go false e = e ∙ once
 
@@ -84,7 +85,8 @@ shown : (n : ℕ) (value : List Float) (inside : List Bool) (color : List ℕ) �
 shown n value inside color e = e .is ∙ ap (padded 0 16) (sym (map-rule (λ (l : Lane). l .color) n (laneAt value inside color)))
 
 -- a band over one lane
-over-lane : (b : LegendBand) (v : Float) (i i' : Bool) (c c' : ℕ) → i' ≡ (i || holds b v) → c' ≡ cond (holds b v) (b .color) c → over b (laneOf v i c) ≡ laneOf v i' c'
+over-lane : (b : LegendBand) (v : Float) (i i' : Bool) (c c' : ℕ) → i' ≡ (i || holds b v) → c' ≡ cond (holds b v) (b .color) c → over b (laneOf v i c)
+    ≡ laneOf v i' c'
 over-lane b v i i' c c' p q = go i (holds b v) ∙ sym (ap₂ (λ (x : Bool) (y : ℕ). laneOf v x y) p q)
   where
     go : (i t : Bool) → cond t (laneOf v true (b .color)) (laneOf v i c) ≡ laneOf v (i || t) (cond t (b .color) c)
@@ -129,7 +131,8 @@ module _ (starts ends : List Float) (colors : List ℕ) (count : ℕ) (nodata n 
           (λ k q. ap₂ (λ (x : Bool) (y : ℕ). laneOf (getD value k nan) x y) (sym (getD-replicate 16 k false false (omega arith))) (sym (lane-at e 0 k q)))
 
   -- band i over the lanes
-  module _ {i : ℕ} {inside : List Bool} {color : List ℕ} (inside' : List Bool) (color' : List ℕ) {b : LegendBand} {all : Bool} (s : Scanning i inside color) (h : i < count) (e : b ≡ f i)
+  module _ {i : ℕ} {inside : List Bool} {color : List ℕ} (inside' : List Bool) (color' : List ℕ) {b : LegendBand} {all : Bool} (s : Scanning i inside color)
+      (h : i < count) (e : b ≡ f i)
       (p : LanesOf 0 n (λ k. cond (holds b (getD value k nan)) (b .color) (getD color k 0)) color')
       (q : LanesOf false n (λ k. getD inside k false || holds b (getD value k nan)) inside')
       (a : all ≡ allBelow n (λ k. getD inside k false || holds b (getD value k nan))) where
@@ -152,7 +155,8 @@ module _ (starts ends : List Float) (colors : List ℕ) (count : ℕ) (nodata n 
     unfolding swept
     turned =
         sym
-        (ap (λ (bs : List LegendBand). swept bs (lanesOf n value inside color)) (drop-band starts ends colors count i h ∙ ap (λ (c : LegendBand). c ∷ drop (i + 1) bands) (sym e))
+        (ap (λ (bs : List LegendBand). swept bs (lanesOf n value inside color))
+        (drop-band starts ends colors count i h ∙ ap (λ (c : LegendBand). c ∷ drop (i + 1) bands) (sym e))
         ∙ ap (λ (ls : List Lane). cond (allInside ls) (record { finished = true; lanes = ls }) (swept (drop (i + 1) bands) ls)) overs
         ∙ ap (λ (t : Bool). cond t (record { finished = true; lanes = next }) (swept (drop (i + 1) bands) next)) alls)
         ∙ s .goes

@@ -14,7 +14,8 @@ module _ {A : Type 0} where
   pub same-rule : (n : ℕ) (f g : ℕ → A) → ((k : ℕ) → k < n → f k ≡ g k) → tabulate n f ≡ tabulate n g
   unfolding tabulate
   same-rule zero f g h = refl
-  same-rule (suc n) f g h = ap₂ (λ (x : A) (xs : List A). x ∷ xs) (h 0 (zero-lt-suc n)) (same-rule n (λ k. f (suc k)) (λ k. g (suc k)) (λ k q. h (suc k) (omega arith)))
+  same-rule (suc n) f g h =
+      ap₂ (λ (x : A) (xs : List A). x ∷ xs) (h 0 (zero-lt-suc n)) (same-rule n (λ k. f (suc k)) (λ k. g (suc k)) (λ k q. h (suc k) (omega arith)))
 
   -- the first n entries of an array, of which each is known
   pub front : (z : A) (n : ℕ) (f : ℕ → A) (r : List A) → n ≤ length r → Lanes z n r f → take n r ≡ tabulate n f

@@ -1,4 +1,5 @@
--- A band at least E wide: from its end on no sample is within E of its start, and up to its start none is within E of its end. Bounds and samples may be infinite. Assumes nothing.
+-- A band at least E wide: from its end on no sample is within E of its start, and up to its start none is within E of its end. Bounds and samples may be
+-- infinite. Assumes nothing.
 use mathlib.Core.Bool.{Bool, true, false, not}
 use lib.Dec.{T}
 use lib.Ieee.{Float, nan, inf, fin, binary32, lt, le, sub, add, neg, eq, isNan, ofBits}

@@ -83,7 +83,8 @@ module _ (starts ends : List Float) (colors : List ℕ) (count : ℕ) (u : Unmap
 
     value-at : (k : ℕ) → k < n → getD value k nan ≡ getD lasts k blank .value
     unfolding blank
-    value-at k q = sym (getD-take n value k nan q) ∙ sym (ap (λ (vs : List Float). getD vs k nan) values-are) ∙ List·getD-map (λ (l : Lane). l .value) lasts k blank
+    value-at k q =
+        sym (getD-take n value k nan q) ∙ sym (ap (λ (vs : List Float). getD vs k nan) values-are) ∙ List·getD-map (λ (l : Lane). l .value) lasts k blank
 
     module _ (l : n ≤ length value) where
       long : length lasts ≡ n

@@ -95,12 +95,14 @@ state-more nodata ps q v = go (holds q v) ∙ sym (ap₂ (λ (i : Bool) (c : ℕ
     lane : Bool → ℕ → Lane
     lane i c = record { value = v; inside = i; color = c }
 
-    go : (t : Bool) → cond t (lane true (q .color)) (lane (held ps v) (laneIn ps v nodata)) ≡ lane (cond t true (held ps v)) (cond t (q .color) (laneIn ps v nodata))
+    go : (t : Bool) → cond t (lane true (q .color)) (lane (held ps v) (laneIn ps v nodata)) ≡ lane (cond t true (held ps v))
+        (cond t (q .color) (laneIn ps v nodata))
     go true = refl
     go false = refl
 
 -- ---- THE LAW
-module _ (b : LegendBand) (bs : List LegendBand) (s : LawfulBands (b ∷ bs)) (u : UnmappableColors) (vs : List Float) (k : ℕ) (n : T (not (isNan (getD vs k nan)))) where
+module _ (b : LegendBand) (bs : List LegendBand) (s : LawfulBands (b ∷ bs)) (u : UnmappableColors) (vs : List Float) (k : ℕ)
+    (n : T (not (isNan (getD vs k nan)))) where
   abbrev edge : Lane → ℕ
   edge = edged u b (lastOf b bs)
 
@@ -113,7 +115,8 @@ module _ (b : LegendBand) (bs : List LegendBand) (s : LawfulBands (b ∷ bs)) (u
   scan-law : (ps qs : List LegendBand) → ps ++ qs ≡ b ∷ bs → getD (colored edge qs (map (here ps) vs)) k 0 ≡ plainColor (b ∷ bs) u v
   unfolding state
   scan-law ps [] e =
-      ap (λ (ls : List ℕ). getD ls k 0) (no-band edge (map (here ps) vs) ∙ map-map edge (here ps) vs) ∙ map-at (λ (x : Float). edge (here ps x)) vs k nan 0 (in-chunk vs k n)
+      ap (λ (ls : List ℕ). getD ls k 0) (no-band edge (map (here ps) vs) ∙ map-map edge (here ps) vs) ∙ map-at (λ (x : Float). edge (here ps x)) vs k nan 0
+      (in-chunk vs k n)
       ∙ ap (λ (all : List LegendBand). edge (here all v)) (sym (append-nil ps) ∙ e) ∙ edges-law b bs s u v n (held (b ∷ bs) v)
   scan-law ps (q ∷ qs) e =
       ap (λ (ls : List ℕ). getD ls k 0) (band-first edge q qs (map (here ps) vs))
@@ -122,8 +125,10 @@ module _ (b : LegendBand) (bs : List LegendBand) (s : LawfulBands (b ∷ bs)) (u
       moved : map (over q) (map (here ps) vs) ≡ map (here (ps ++ (q ∷ []))) vs
       moved = map-map (over q) (here ps) vs ∙ map-same (λ (x : Float). over q (here ps x)) (here (ps ++ (q ∷ []))) vs (state-more (u .nodata) ps q)
 
-      go : (t : Bool) → allInside (map (over q) (map (here ps) vs)) ≡ t → getD (colored edge qs (map (here (ps ++ (q ∷ []))) vs)) k 0 ≡ plainColor (b ∷ bs) u v →
-          getD (cond t (map (λ (l : Lane). l .color) (map (over q) (map (here ps) vs))) (colored edge qs (map (over q) (map (here ps) vs)))) k 0 ≡ plainColor (b ∷ bs) u v
+      go : (t : Bool) → allInside (map (over q) (map (here ps) vs)) ≡ t → getD (colored edge qs (map (here (ps ++ (q ∷ []))) vs)) k 0 ≡ plainColor (b ∷ bs) u v
+          →
+          getD (cond t (map (λ (l : Lane). l .color) (map (over q) (map (here ps) vs))) (colored edge qs (map (over q) (map (here ps) vs)))) k 0
+          ≡ plainColor (b ∷ bs) u v
       go true a i =
           ap (λ (ls : List Lane). getD (map (λ (l : Lane). l .color) ls) k 0) moved
           ∙ ap (λ (cs : List ℕ). getD cs k 0) (map-map (λ (l : Lane). l .color) (here (ps ++ (q ∷ []))) vs)
@@ -132,7 +137,8 @@ module _ (b : LegendBand) (bs : List LegendBand) (s : LawfulBands (b ∷ bs)) (u
           (all-at (here (ps ++ (q ∷ []))) vs k (in-chunk vs k n) (subst T (sym (ap allInside (sym moved) ∙ a)) tt))
       go false a i = ap (λ (ls : List Lane). getD (colored edge qs ls) k 0) moved ∙ i
 
-pub lane-law : (bands : List LegendBand) → LawfulBands bands → (u : UnmappableColors) (vs : List Float) (k : ℕ) → T (not (isNan (getD vs k nan))) → getD (laneColors bands u vs) k 0 ≡ plainColor bands u (getD vs k nan)
+pub lane-law : (bands : List LegendBand) → LawfulBands bands → (u : UnmappableColors) (vs : List Float) (k : ℕ) → T (not (isNan (getD vs k nan)))
+    → getD (laneColors bands u vs) k 0 ≡ plainColor bands u (getD vs k nan)
 unfolding laneColors plainRule
 lane-law [] s u vs k n = map-at (λ (v : Float). u .nodata) vs k nan 0 (in-chunk vs k n)
 lane-law (b ∷ bs) s u vs k n = unfold state held laneIn in scan-law b bs s u vs k n [] (b ∷ bs) refl

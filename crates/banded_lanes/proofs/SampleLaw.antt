@@ -1,4 +1,5 @@
--- For a sound list of bands the lane rule and the plain rule agree at every sample that is no NaN: past the edges, and where a chunk is finished before the last band. Assumes nothing.
+-- For a sound list of bands the lane rule and the plain rule agree at every sample that is no NaN: past the edges, and where a chunk is finished before the
+-- last band. Assumes nothing.
 use Prim.Native.Nat.{ℕ}
 use mathlib.Core.Path.{_≡_, refl, sym, ap, _∙_, subst}
 use mathlib.Core.Logic.{_⊎_, inl, inr}
@@ -54,8 +55,10 @@ none-below : (lo v : Float) (bs : List LegendBand) (d : ℕ) → Chain lo bs →
 unfolding laneIn
 none-below lo v [] d c h = refl
 none-below lo v (b ∷ bs) d c h =
-    let n : T (not (holds b v)) = not-T (holds b v) (λ (t : T (holds b v)). lt-not-le v (b .start) (lt-le v lo (b .start) h (c .0)) (and-l (le (b .start) v) (lt v (b .end)) t)) in
-    ap (laneIn bs v) (no-is (holds b v) (b .color) d n) ∙ none-below (b .end) v bs d (c .2) (lt-le v (b .start) (b .end) (lt-le v lo (b .start) h (c .0)) (c .1))
+    let n : T (not (holds b v)) = not-T (holds b v)
+    (λ (t : T (holds b v)). lt-not-le v (b .start) (lt-le v lo (b .start) h (c .0)) (and-l (le (b .start) v) (lt v (b .end)) t)) in
+    ap (laneIn bs v) (no-is (holds b v) (b .color) d n) ∙ none-below (b .end) v bs d (c .2)
+    (lt-le v (b .start) (b .end) (lt-le v lo (b .start) h (c .0)) (c .1))
 
 -- ---- overwriting is the same as taking the first
 same-in : (lo v : Float) (bs : List LegendBand) (d : ℕ) → Chain lo bs → laneIn bs v d ≡ firstColor bs v d
@@ -73,7 +76,8 @@ module _ (v : Float) where
   free [] d d' h = absurd h
   free (b ∷ bs) d d' h = go (holds b v) h (free bs d d')
     where
-      go : (t : Bool) → T (cond t true (held bs v)) → (T (held bs v) → firstColor bs v d ≡ firstColor bs v d') → cond t (b .color) (firstColor bs v d) ≡ cond t (b .color) (firstColor bs v d')
+      go : (t : Bool) → T (cond t true (held bs v)) → (T (held bs v) → firstColor bs v d ≡ firstColor bs v d') → cond t (b .color) (firstColor bs v d)
+          ≡ cond t (b .color) (firstColor bs v d')
       go true h f = refl
       go false h f = f h
 
@@ -94,7 +98,8 @@ record Ends (b l : LegendBand) : Type 0 where
 
 ends : (lo : Float) (b : LegendBand) (bs : List LegendBand) → Chain lo (b ∷ bs) → Ends b (lastOf b bs)
 unfolding lastOf
-ends lo b [] c = record { starts = le-refl-float (b .start) (le-r lo (b .start) (c .0)); ends = le-refl-float (b .end) (le-r (b .start) (b .end) (c .1)); order = c .1 }
+ends lo b [] c =
+    record { starts = le-refl-float (b .start) (le-r lo (b .start) (c .0)); ends = le-refl-float (b .end) (le-r (b .start) (b .end) (c .1)); order = c .1 }
 ends lo b (d ∷ bs) c =
     let r = ends (b .end) d bs (c .2) in
     let l = lastOf d bs in
@@ -157,14 +162,16 @@ module _ (v : Float) where
   first-in b bs d h = yes-is (holds b v) (b .color) (firstColor bs v d) h
 
 -- ---- the orders of the two chains of tests
-nest : (w2 w1 ab be : Bool) (lc bc hi lo d P : ℕ) → (T w2 → lc ≡ P) → (T w1 → bc ≡ P) → T (not ab) → T (not be) → d ≡ P → cond w2 lc (cond w1 bc (cond ab hi (cond be lo d))) ≡ P
+nest : (w2 w1 ab be : Bool) (lc bc hi lo d P : ℕ) → (T w2 → lc ≡ P) → (T w1 → bc ≡ P) → T (not ab) → T (not be) → d ≡ P
+    → cond w2 lc (cond w1 bc (cond ab hi (cond be lo d))) ≡ P
 nest true w1 ab be lc bc hi lo d P f g x y e = f tt
 nest false true ab be lc bc hi lo d P f g x y e = g tt
 nest false false true be lc bc hi lo d P f g x y e = absurd x
 nest false false false true lc bc hi lo d P f g x y e = absurd y
 nest false false false false lc bc hi lo d P f g x y e = e
 
-swap : (w2 w1 ab be : Bool) (lc bc hi lo d : ℕ) → (T w1 → T be) → (T be → T w2 → ⊥) → (T be → T ab → ⊥) → cond w2 lc (cond w1 bc (cond ab hi (cond be lo d))) ≡ cond w1 bc (cond be lo (cond w2 lc (cond ab hi d)))
+swap : (w2 w1 ab be : Bool) (lc bc hi lo d : ℕ) → (T w1 → T be) → (T be → T w2 → ⊥) → (T be → T ab → ⊥) → cond w2 lc (cond w1 bc (cond ab hi (cond be lo d)))
+    ≡ cond w1 bc (cond be lo (cond w2 lc (cond ab hi d)))
 swap true true ab be lc bc hi lo d f g h = absurd (g (f tt) tt)
 swap true false ab true lc bc hi lo d f g h = absurd (g tt tt)
 swap true false ab false lc bc hi lo d f g h = refl
@@ -185,11 +192,18 @@ module _ (b : LegendBand) (bs : List LegendBand) (u : UnmappableColors) (v : Flo
 
   -- from the first band's end on, v is not within E of its start
   w1 : T (within (b .start) v) → T (lt v (b .end))
-  w1 h = elim (both (lt v (b .end))) [ inl t ↦ t | inr t ↦ absurd (past-end (b .start) (b .end) v wide-first (not-lt v (b .end) n (le-r (b .start) (b .end) (c .1)) t) h) ]
+  w1 h =
+      elim (both (lt v (b .end)))
+      [ inl t ↦ t | inr t ↦ absurd (past-end (b .start) (b .end) v wide-first (not-lt v (b .end) n (le-r (b .start) (b .end) (c .1)) t) h) ]
 
   -- before the last band's start, v is not within E of its end
   w2 : T (within (l .end) v) → T (le (l .start) v)
-  w2 h = elim (both (le (l .start) v)) [ inl t ↦ t | inr t ↦ absurd (up-to-start (l .start) (l .end) v n wide-last (lt→le v (l .start) (not-le (l .start) v (le-l (l .start) (l .end) (Z .order)) n t)) h) ]
+  w2 h =
+      elim (both (le (l .start) v)) [
+        | inl t ↦ t
+        | inr t ↦ absurd
+            (up-to-start (l .start) (l .end) v n wide-last (lt→le v (l .start) (not-le (l .start) v (le-l (l .start) (l .end) (Z .order)) n t)) h)
+      ]
 
   -- neither w2 nor above where v is below the first start
   not-w2 : T (lt v (b .start)) → T (within (l .end) v) → ⊥
@@ -199,7 +213,8 @@ module _ (b : LegendBand) (bs : List LegendBand) (u : UnmappableColors) (v : Flo
   not-above h a = lt-not-le v (b .start) h (le-le (b .start) (l .start) v (Z .starts) (le-le (l .start) (l .end) v (Z .order) (lt→le (l .end) v a)))
 
   edge : ℕ
-  edge = cond (within (b .start) v) (b .color) (cond (lt v (b .start)) (u .low) (cond (within (l .end) v) (l .color) (cond (lt (l .end) v) (u .high) (u .nodata))))
+  edge =
+      cond (within (b .start) v) (b .color) (cond (lt v (b .start)) (u .low) (cond (within (l .end) v) (l .color) (cond (lt (l .end) v) (u .high) (u .nodata))))
 
   top : ℕ → ℕ
   top d = cond (within (l .end) v) (l .color) (cond (within (b .start) v) (b .color) (cond (lt (l .end) v) (u .high) (cond (lt v (b .start)) (u .low) d)))
@@ -223,13 +238,15 @@ module _ (b : LegendBand) (bs : List LegendBand) (u : UnmappableColors) (v : Flo
   unfolding top edge
   outside h =
       ap top (same-in (b .start) v (b ∷ bs) (u .nodata) c ∙ bare v (b ∷ bs) (u .nodata) h)
-      ∙ swap (within (l .end) v) (within (b .start) v) (lt (l .end) v) (lt v (b .start)) (l .color) (b .color) (u .high) (u .low) (u .nodata) w1-below not-w2 not-above
+      ∙ swap (within (l .end) v) (within (b .start) v) (lt (l .end) v) (lt v (b .start)) (l .color) (b .color) (u .high) (u .low) (u .nodata) w1-below not-w2
+      not-above
       ∙ sym (bare v (b ∷ bs) edge h)
     where
       w1-below : T (within (b .start) v) → T (lt v (b .start))
       w1-below w =
           not-le (b .start) v (le-l (b .start) (b .end) (c .1)) n
-          (not-T (le (b .start) v) (λ (a : T (le (b .start) v)). T-not (held (b ∷ bs) v) h (first-held v b bs (and-i (le (b .start) v) (lt v (b .end)) a (w1 w)))))
+          (not-T (le (b .start) v)
+          (λ (a : T (le (b .start) v)). T-not (held (b ∷ bs) v) h (first-held v b bs (and-i (le (b .start) v) (lt v (b .end)) a (w1 w)))))
 
   banded-law : top (laneIn (b ∷ bs) v (u .nodata)) ≡ firstColor (b ∷ bs) v edge
   banded-law = elim (both (held (b ∷ bs) v)) [ inl h ↦ inside h | inr h ↦ outside h ]
@@ -248,7 +265,8 @@ unfolding held firstColor
 taken v [] qs d d' h = absurd h
 taken v (p ∷ ps) qs d d' h = go (holds p v) h (taken v ps qs d d')
   where
-    go : (t : Bool) → T (cond t true (held ps v)) → (T (held ps v) → firstColor ps v d ≡ firstColor (ps ++ qs) v d') → cond t (p .color) (firstColor ps v d) ≡ cond t (p .color) (firstColor (ps ++ qs) v d')
+    go : (t : Bool) → T (cond t true (held ps v)) → (T (held ps v) → firstColor ps v d ≡ firstColor (ps ++ qs) v d') → cond t (p .color) (firstColor ps v d)
+        ≡ cond t (p .color) (firstColor (ps ++ qs) v d')
     go true h f = refl
     go false h f = f h
 
@@ -256,7 +274,8 @@ early : (lo v : Float) (ps qs : List LegendBand) (nodata d : ℕ) → Chain lo (
 early lo v ps qs nodata d c h = same-in lo v ps nodata (front lo ps qs c) ∙ taken v ps qs nodata d h
 
 -- ---- a sound list is such a chain
-chain-of : (lo : Float) (b : LegendBand) (bs : List LegendBand) → T (le lo (b .start)) → T (eachBand startsBelowEnd (b ∷ bs)) → T (eachAfter clears b bs) → Chain lo (b ∷ bs)
+chain-of : (lo : Float) (b : LegendBand) (bs : List LegendBand) → T (le lo (b .start)) → T (eachBand startsBelowEnd (b ∷ bs)) → T (eachAfter clears b bs)
+    → Chain lo (b ∷ bs)
 unfolding eachBand eachAfter
 chain-of lo b [] l q r = (l, lt→le (b .start) (b .end) (and-l (startsBelowEnd b) true q), tt)
 chain-of lo b (d ∷ bs) l q r =
@@ -264,20 +283,24 @@ chain-of lo b (d ∷ bs) l q r =
     let later : T (eachBand startsBelowEnd (d ∷ bs)) = and-r (startsBelowEnd b) (eachBand startsBelowEnd (d ∷ bs)) q in (
       l,
       lt→le (b .start) (b .end) starts,
-      chain-of (b .end) d bs (end-start b d starts (and-l (startsBelowEnd d) (eachBand startsBelowEnd bs) later) (and-l (clears b d) (eachAfter clears d bs) r)) later (and-r (clears b d) (eachAfter clears d bs) r),
+      chain-of (b .end) d bs (end-start b d starts (and-l (startsBelowEnd d) (eachBand startsBelowEnd bs) later) (and-l (clears b d) (eachAfter clears d bs) r))
+          later (and-r (clears b d) (eachAfter clears d bs) r),
     )
 
 module _ (b : LegendBand) (bs : List LegendBand) (s : LawfulBands (b ∷ bs)) (u : UnmappableColors) (v : Float) where
   sound-chain : Chain (b .start) (b ∷ bs)
   unfolding eachNext
-  sound-chain = chain-of (b .start) b bs (le-refl-float (b .start) (lt-l (b .start) (b .end) first)) (starts-below (b ∷ bs) (s .ordered)) (disjoint (b ∷ bs) (s .ordered))
+  sound-chain =
+      chain-of (b .start) b bs (le-refl-float (b .start) (lt-l (b .start) (b .end) first)) (starts-below (b ∷ bs) (s .ordered)) (disjoint (b ∷ bs) (s .ordered))
     where
       first : T (startsBelowEnd b)
       first = unfold eachBand in and-l (startsBelowEnd b) (eachBand startsBelowEnd bs) (starts-below (b ∷ bs) (s .ordered))
 
-  pub edges-law : T (not (isNan v)) → (i : Bool) → edged u b (lastOf b bs) (record { value = v; inside = i; color = laneIn (b ∷ bs) v (u .nodata) }) ≡ plainColor (b ∷ bs) u v
+  pub edges-law : T (not (isNan v)) → (i : Bool) → edged u b (lastOf b bs) (record { value = v; inside = i; color = laneIn (b ∷ bs) v (u .nodata) })
+      ≡ plainColor (b ∷ bs) u v
   unfolding firstAndLast
-  edges-law n = past-edges b bs u v n sound-chain (and-l (wideBand b) (wideBand (lastOf b bs)) (s .wide)) (and-r (wideBand b) (wideBand (lastOf b bs)) (s .wide))
+  edges-law n =
+      past-edges b bs u v n sound-chain (and-l (wideBand b) (wideBand (lastOf b bs)) (s .wide)) (and-r (wideBand b) (wideBand (lastOf b bs)) (s .wide))
 
   -- at the bands ps, one of which holds v, before the bands qs
   pub early-law : (ps qs : List LegendBand) → ps ++ qs ≡ b ∷ bs → T (held ps v) → laneIn ps v (u .nodata) ≡ plainColor (b ∷ bs) u v

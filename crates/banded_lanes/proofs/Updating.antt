@@ -25,7 +25,8 @@ module _ {A : Type 0} {z : A} {f : ℕ → A} {l : ℕ} {old : List A} where
       record {
         upto = omega arith;
         long = length-set r i x ∙ p .long;
-        new = below-more (λ k. getD (set r i x) k z ≡ f k) i (λ k q. getD-set-other r i k x z (λ (s : k ≡ i). omega arith) ∙ p .new k q) (getD-set-same r i x z (omega (arith, p .long)) ∙ e);
+        new = below-more (λ k. getD (set r i x) k z ≡ f k) i (λ k q. getD-set-other r i k x z (λ (s : k ≡ i). omega arith) ∙ p .new k q)
+            (getD-set-same r i x z (omega (arith, p .long)) ∙ e);
         rest = λ k q. getD-set-other r i k x z (λ (s : k ≡ i). omega arith) ∙ p .rest k (omega arith);
       }
 

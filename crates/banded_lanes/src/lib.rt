@@ -107,7 +107,8 @@ fn enter(
     inside: &mut [bool; 16],
 ) -> bool
     requires { ⌜ (lanes ≤ 16) × LanesOf 0 lanes (λ k. getD (now words) k 0) (now words) × LanesOf false lanes (λ k. getD (now inside) k false) (now inside) ⌝ }
-    ensures { λ r. ⌜ LanesOf 0 lanes (λ k. cond (holds band (getD (now (value .entry)) k nan)) (band .color) (getD (now (words .entry)) k 0)) (now (words .exit)) ⌝ }
+    ensures { λ r. ⌜ LanesOf 0 lanes (λ k. cond (holds band (getD (now (value .entry)) k nan)) (band .color) (getD (now (words .entry)) k 0))
+        (now (words .exit)) ⌝ }
     ensures { λ r. ⌜ LanesOf false lanes (λ k. getD (now (inside .entry)) k false || holds band (getD (now (value .entry)) k nan)) (now (inside .exit)) ⌝ }
     ensures { λ r. ⌜ r ≡ allBelow lanes (λ k. getD (now (inside .entry)) k false || holds band (getD (now (value .entry)) k nan)) ⌝ }
 {

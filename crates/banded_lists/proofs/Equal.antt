@@ -1,4 +1,5 @@
--- Equal bands: what an answer of `Done` says of the count and the colours, how many there are, and that the zeros after the colours are not read. Assumes nothing.
+-- Equal bands: what an answer of `Done` says of the count and the colours, how many there are, and that the zeros after the colours are not read. Assumes
+-- nothing.
 use mathlib.Core.Path.{_≡_, refl, sym, ap, _∙_}
 use mathlib.Core.Bool.{not}
 use mathlib.Core.List.{List, []}
@@ -46,11 +47,13 @@ pub equal-length : (count : ℕ) (start end : Float) (colors : List ℕ) → len
 unfolding equalBands
 equal-length count start end colors = length-tabulate count _
 
-pub equal-padded : (count : ℕ) (start end : Float) (colors : List ℕ) → length colors ≡ count → equalBands count start end (padded 0 256 colors) ≡ equalBands count start end colors
+pub equal-padded : (count : ℕ) (start end : Float) (colors : List ℕ) → length colors ≡ count → equalBands count start end (padded 0 256 colors)
+    ≡ equalBands count start end colors
 unfolding equalBands
 equal-padded count start end colors e =
     let step = bandStep count start end in
-    tabulate-same blankBand count (λ k. bandFrom (bandStart start step k) step (getD (padded 0 256 colors) k 0)) (λ k. bandFrom (bandStart start step k) step (getD colors k 0))
+    tabulate-same blankBand count (λ k. bandFrom (bandStart start step k) step (getD (padded 0 256 colors) k 0))
+    (λ k. bandFrom (bandStart start step k) step (getD colors k 0))
     (λ k h. ap (bandFrom (bandStart start step k) step) (getD-padded 0 256 colors k 0 (omega arith)))
 
 -- ---- the loop over the bands: its position, and the bands stored so far
@@ -63,7 +66,8 @@ module _ {start step : Float} {colors : List ℕ} {count : ℕ} where
   unfolding bandStart
   laying-start e = record { at = refl; stored = no-bands-stored e }
 
-  pub laying-turn : {i : ℕ} {position : Float} {bands : List LegendBand} {b : LegendBand} → Laying start step colors count i position bands → i < count → count ≤ 64 → b ≡ bandFrom position step (getD colors i 0)
+  pub laying-turn : {i : ℕ} {position : Float} {bands : List LegendBand} {b : LegendBand} → Laying start step colors count i position bands → i < count
+      → count ≤ 64 → b ≡ bandFrom position step (getD colors i 0)
       → Laying start step colors count (i + 1) (add binary32 position step) (set bands i b)
   unfolding bandStart
   laying-turn {i} l h g e =

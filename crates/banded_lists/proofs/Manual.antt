@@ -30,7 +30,8 @@ module _ (values : ValueRanges) (given : ℕ) (e : manualRefusal values given �
       same-count given (values .count) Done (passed (ltb first (values .count)) (EmptyRange first) _ (passed (ltb 64 (values .count)) TooManyBands _ e .1) .1)
 
 -- ---- the first empty range: the first i are not, and the next is, or there is none
-pub first-found : (z : ValueRange) (n : ℕ) (rs : List ValueRange) (i : ℕ) → ((k : ℕ) → k < i → isEmpty (getD rs k z) ≡ false) → i < n → n ≤ length rs → isEmpty (getD rs i z) ≡ true → firstEmpty (take n rs) ≡ i
+pub first-found : (z : ValueRange) (n : ℕ) (rs : List ValueRange) (i : ℕ) → ((k : ℕ) → k < i → isEmpty (getD rs k z) ≡ false) → i < n → n ≤ length rs
+    → isEmpty (getD rs i z) ≡ true → firstEmpty (take n rs) ≡ i
 unfolding firstEmpty
 first-found z zero rs i all h g e = absurd (omega arith)
 first-found z (suc n) [] i all h g e = absurd (omega arith)
@@ -46,11 +47,13 @@ none-found z (suc n) [] all g = absurd (omega arith)
 none-found z (suc n) (r ∷ rs) all g =
     ap (λ b. cond b 0 (suc (firstEmpty (take n rs)))) (all 0 (omega arith)) ∙ ap suc (none-found z n rs (λ k q. all (suc k) (omega arith)) (le-of-suc-le-suc g))
 
-pub first-none : (z : ValueRange) (n : ℕ) (rs : List ValueRange) (i : ℕ) → ((k : ℕ) → k < i → isEmpty (getD rs k z) ≡ false) → i ≡ n → n ≤ length rs → i ≡ firstEmpty (take n rs)
+pub first-none : (z : ValueRange) (n : ℕ) (rs : List ValueRange) (i : ℕ) → ((k : ℕ) → k < i → isEmpty (getD rs k z) ≡ false) → i ≡ n → n ≤ length rs → i
+    ≡ firstEmpty (take n rs)
 first-none z n rs i all e g = e ∙ sym (none-found z n rs (λ k h. all k (omega arith)) g)
 
 -- ---- band k by range k and colour k
-pub range-bands : (z : ValueRange) (n : ℕ) (rs : List ValueRange) (colors : List ℕ) → n ≤ length rs → n ≤ length colors → tabulate n (λ k. bandOf (getD rs k z) (getD colors k 0)) ≡ rangeBands (take n rs) colors
+pub range-bands : (z : ValueRange) (n : ℕ) (rs : List ValueRange) (colors : List ℕ) → n ≤ length rs → n ≤ length colors
+    → tabulate n (λ k. bandOf (getD rs k z) (getD colors k 0)) ≡ rangeBands (take n rs) colors
 unfolding tabulate rangeBands
 range-bands z zero rs colors h g = refl
 range-bands z (suc n) [] colors h g = absurd (omega arith)

@@ -32,4 +32,5 @@ equalBands count start end colors = let step = bandStep count start end in tabul
 
 -- 7 start > end; 8 count above 64; 9 the number of colours given differs from count
 unfoldable pub equalRefusal : (count : ℕ) (start end : Float) (given : ℕ) → Answer
-equalRefusal count start end given = refuseIf (lt end start) StartAboveEnd (refuseIf (ltb 64 count) TooManyBands (refuseIf (not (eqb given count)) ColorCountDiffers Done))
+equalRefusal count start end given =
+    refuseIf (lt end start) StartAboveEnd (refuseIf (ltb 64 count) TooManyBands (refuseIf (not (eqb given count)) ColorCountDiffers Done))

@@ -1,5 +1,5 @@
 // Painting f32 samples by a banded legend, plainly and in lanes (docs/RULES.md, "Painting"). The refusals are the caller's, who has
-// seen to it that at most 64 bands are counted. Ascending disjoint bands are searched by index, others scanned: asked once per raster.
+// seen to it that at most 64 bands are counted. Ascending disjoint bands are searched by index, others scanned: checked once per painting.
 use banded_chunk::BandedPaint;
 use banded_search::indices;
 ghost use mathlib.Core.Path.{_≡_};
@@ -26,8 +26,10 @@ fn block(
     base: usize,
     out: &mut [u32],
 )
-    requires { ⌜ (p .count ≤ 64) × (search ≡ true → ascendingDisjoint (fromColumns (now starts) (now ends) (now colors) (p .count)) ≡ true) × (base + 16 ≤ length (now src)) × (base + 16 ≤ length (now out)) ⌝ }
-    ensures { λ _. ⌜ now (out .exit) ≡ chunkOver (map (plainSample (fromColumns (now (starts .entry)) (now (ends .entry)) (now (colors .entry)) (p .count)) p)) (now (src .entry)) (now (out .entry)) base 16 ⌝ }
+    requires { ⌜ (p .count ≤ 64) × (search ≡ true → ascendingDisjoint (fromColumns (now starts) (now ends) (now colors) (p .count)) ≡ true)
+        × (base + 16 ≤ length (now src)) × (base + 16 ≤ length (now out)) ⌝ }
+    ensures { λ _. ⌜ now (out .exit) ≡ chunkOver (map (plainSample (fromColumns (now (starts .entry)) (now (ends .entry)) (now (colors .entry)) (p .count)) p))
+        (now (src .entry)) (now (out .entry)) base 16 ⌝ }
 {
     let v = painting::load(16, src, base);
     painting::store(
@@ -49,8 +51,10 @@ fn rest(
     base: usize,
     out: &mut [u32],
 )
-    requires { ⌜ (p .count ≤ 64) × (search ≡ true → ascendingDisjoint (fromColumns (now starts) (now ends) (now colors) (p .count)) ≡ true) × (base ≤ length (now src)) × (length (now src) ≤ base + 16) × (length (now out) ≡ length (now src)) ⌝ }
-    ensures { λ _. ⌜ now (out .exit) ≡ take base (now (out .entry)) ++ map (plainSample (fromColumns (now (starts .entry)) (now (ends .entry)) (now (colors .entry)) (p .count)) p) (drop base (now (src .entry))) ⌝ }
+    requires { ⌜ (p .count ≤ 64) × (search ≡ true → ascendingDisjoint (fromColumns (now starts) (now ends) (now colors) (p .count)) ≡ true)
+        × (base ≤ length (now src)) × (length (now src) ≤ base + 16) × (length (now out) ≡ length (now src)) ⌝ }
+    ensures { λ _. ⌜ now (out .exit) ≡ take base (now (out .entry))
+        ++ map (plainSample (fromColumns (now (starts .entry)) (now (ends .entry)) (now (colors .entry)) (p .count)) p) (drop base (now (src .entry))) ⌝ }
 {
     let m = src.len() - base;
     if m == 0 {
@@ -77,7 +81,8 @@ pub fn paint(
     out: &mut [u32],
 )
     requires { ⌜ (p .count ≤ 64) × (length (now out) ≡ length (now src)) ⌝ }
-    ensures { λ _. ⌜ now (out .exit) ≡ plainPainted (plainSample (fromColumns (now (starts .entry)) (now (ends .entry)) (now (colors .entry)) (p .count)) p) (now (src .entry)) ⌝ }
+    ensures { λ _. ⌜ now (out .exit) ≡ plainPainted (plainSample (fromColumns (now (starts .entry)) (now (ends .entry)) (now (colors .entry)) (p .count)) p)
+        (now (src .entry)) ⌝ }
 {
     let search = indices::ascending_disjoint(starts, ends, p.count);
     let n = src.len();
@@ -100,7 +105,8 @@ pub fn paint_simd(
     out: &mut [u32],
 )
     requires { ⌜ (p .count ≤ 64) × (laneCount l ≡ true) × (length (now out) ≡ length (now src)) ⌝ }
-    ensures { λ _. ⌜ now (out .exit) ≡ lanePainted l (laneChunk (fromColumns (now (starts .entry)) (now (ends .entry)) (now (colors .entry)) (p .count)) p) (plainSample (fromColumns (now (starts .entry)) (now (ends .entry)) (now (colors .entry)) (p .count)) p) (now (src .entry)) ⌝ }
+    ensures { λ _. ⌜ now (out .exit) ≡ lanePainted l (laneChunk (fromColumns (now (starts .entry)) (now (ends .entry)) (now (colors .entry)) (p .count)) p)
+        (plainSample (fromColumns (now (starts .entry)) (now (ends .entry)) (now (colors .entry)) (p .count)) p) (now (src .entry)) ⌝ }
 {
     let search = indices::ascending_disjoint(starts, ends, p.count) & (0 < p.count);
     let n = src.len();

@@ -28,7 +28,8 @@ both n d nan = unfold lt in refl
 both n d (inf true) = unfold lt in refl
 both n d (inf false) = unfold lt in refl
 both n d (fin true m x) = ap (λ (b : Bool). b && lt (fin false m x) (fin false (suc n) d)) (under m x n d)
-both n d (fin false m x) = ap (λ (b : Bool). lt (fin false m x) (fin false (suc n) d) && b) (under m x n d) ∙ and-true (lt (fin false m x) (fin false (suc n) d))
+both n d (fin false m x) =
+    ap (λ (b : Bool). lt (fin false m x) (fin false (suc n) d) && b) (under m x n d) ∙ and-true (lt (fin false m x) (fin false (suc n) d))
 
 pub within-is : (edge v : Float) → (lt (sub binary32 v edge) E && lt (neg (sub binary32 v edge)) E) ≡ within edge v
 unfolding ofBits

@@ -40,7 +40,8 @@ module _ (u : UnmappableColors) where
   edge-of b l bs false false false false e = refl
 
   abbrev chain : (b l : LegendBand) (v : Float) → ℕ
-  chain b l v = cond (within (b .start) v) (b .color) (cond (lt v (b .start)) (u .low) (cond (within (l .end) v) (l .color) (cond (lt (l .end) v) (u .high) (u .nodata))))
+  chain b l v =
+      cond (within (b .start) v) (b .color) (cond (lt v (b .start)) (u .low) (cond (within (l .end) v) (l .color) (cond (lt (l .end) v) (u .high) (u .nodata))))
 
   edge-is : (b : LegendBand) (bs : List LegendBand) (v : Float) → ruleColor (bandedRuleColors (b ∷ bs) u) (edges b (lastOf b bs) v) ≡ chain b (lastOf b bs) v
   unfolding edges
@@ -66,7 +67,8 @@ module _ (u : UnmappableColors) where
       here = let e : k ≡ k + 0 = omega arith in ap (λ (n : ℕ). getD (colors all) n 0) e ∙ h 0
 
       go : (t : Bool) → ruleColor (bandedRuleColors all u) (firstBand (suc k) bs v o) ≡ firstColor bs v (ruleColor (bandedRuleColors all u) o)
-          → ruleColor (bandedRuleColors all u) (cond t (band k) (firstBand (suc k) bs v o)) ≡ cond t (b .color) (firstColor bs v (ruleColor (bandedRuleColors all u) o))
+          → ruleColor (bandedRuleColors all u) (cond t (band k) (firstBand (suc k) bs v o))
+          ≡ cond t (b .color) (firstColor bs v (ruleColor (bandedRuleColors all u) o))
       go true e = here
       go false e = e
 
@@ -110,14 +112,17 @@ module _ (starts ends : List Float) (colors : List ℕ) where
   pub last-is : (n : ℕ) → lastOf (f 0) (tabulate n (λ k. f (suc k))) ≡ f (suc n - 1)
   last-is n = let e : n ≡ suc n - 1 = omega arith in last-at f n ∙ ap f e
 
-  pub plain-packed : (count : ℕ) (u : UnmappableColors) (v : Float) → 0 < count → plainColor (bands count) u v ≡ firstColor (bands count) v (edgeColor (f 0) (f (count - 1)) u v)
+  pub plain-packed : (count : ℕ) (u : UnmappableColors) (v : Float) → 0 < count → plainColor (bands count) u v ≡ firstColor (bands count) v
+      (edgeColor (f 0) (f (count - 1)) u v)
   unfolding fromColumns tabulate
   plain-packed zero u v h = absurd (omega arith)
-  plain-packed (suc n) u v h = let bs = tabulate n (λ k. f (suc k)) in plain-form u (f 0) bs v ∙ ap (λ (l : LegendBand). firstColor (f 0 ∷ bs) v (edgeColor (f 0) l u v)) (last-is n)
+  plain-packed (suc n) u v h =
+      let bs = tabulate n (λ k. f (suc k)) in plain-form u (f 0) bs v ∙ ap (λ (l : LegendBand). firstColor (f 0 ∷ bs) v (edgeColor (f 0) l u v)) (last-is n)
 
   -- the first band that holds a value, from the one at i on
   module _ (count i : ℕ) (v : Float) (o : ℕ) where
-    pub first-at : {b : LegendBand} (j : ℕ) → i + 1 ≡ j → i < count → b ≡ f i → firstColor (drop i (bands count)) v o ≡ cond (holds b v) (b .color) (firstColor (drop j (bands count)) v o)
+    pub first-at : {b : LegendBand} (j : ℕ) → i + 1 ≡ j → i < count → b ≡ f i → firstColor (drop i (bands count)) v o ≡ cond (holds b v) (b .color)
+        (firstColor (drop j (bands count)) v o)
     unfolding firstColor
     first-at {b} j n h e =
         ap (λ (bs : List LegendBand). firstColor bs v o) (drop-band count i h)
@@ -126,7 +131,8 @@ module _ (starts ends : List Float) (colors : List ℕ) where
     pub first-held : {b : LegendBand} → i < count → b ≡ f i → holds b v ≡ true → firstColor (drop i (bands count)) v o ≡ b .color
     first-held {b} h e t = first-at (i + 1) refl h e ∙ ap (λ (x : Bool). cond x (b .color) (firstColor (drop (i + 1) (bands count)) v o)) t
 
-    pub first-passed : {b : LegendBand} → i < count → b ≡ f i → holds b v ≡ false → firstColor (drop i (bands count)) v o ≡ firstColor (drop (i + 1) (bands count)) v o
+    pub first-passed : {b : LegendBand} → i < count → b ≡ f i → holds b v ≡ false → firstColor (drop i (bands count)) v o
+        ≡ firstColor (drop (i + 1) (bands count)) v o
     first-passed {b} h e t = first-at (i + 1) refl h e ∙ ap (λ (x : Bool). cond x (b .color) (firstColor (drop (i + 1) (bands count)) v o)) t
 
     pub first-end : count ≤ i → firstColor (drop i (bands count)) v o ≡ o

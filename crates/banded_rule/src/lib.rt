@@ -79,7 +79,8 @@ fn first_colors(
     otherwise: [u32; 16],
 ) -> [u32; 16]
     requires { ⌜ count ≤ 64 ⌝ }
-    ensures { λ r. ⌜ Lanes 0 16 r (λ k. firstColor (fromColumns (now (starts .entry)) (now (ends .entry)) (now (colors .entry)) count) (getD value k nan) (getD otherwise k 0)) ⌝ }
+    ensures { λ r. ⌜ Lanes 0 16 r (λ k. firstColor (fromColumns (now (starts .entry)) (now (ends .entry)) (now (colors .entry)) count) (getD value k nan)
+        (getD otherwise k 0)) ⌝ }
 {
     let mut result = otherwise;
     let mut i = count;

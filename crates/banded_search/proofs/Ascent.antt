@@ -33,7 +33,11 @@ module _ (starts ends : List Float) where
   Ascent count = (i j : ℕ) → i < j → j < count → Clears i j
 
   both-clear : (i j k : ℕ) → Clears i j → Clears j k → Clears i k
-  both-clear i j k p q = record { startsAscend = le-le (start i) (start j) (start k) (p .startsAscend) (q .startsAscend); past = le-le (end i) (start j) (start k) (p .past) (q .startsAscend) }
+  both-clear i j k p q =
+      record {
+        startsAscend = le-le (start i) (start j) (start k) (p .startsAscend) (q .startsAscend);
+        past = le-le (end i) (start j) (start k) (p .past) (q .startsAscend);
+      }
 
   by-next : (count : ℕ) → ((i : ℕ) → suc i < count → Clears i (suc i)) → Ascent count
   by-next count next i zero p q = absurd (omega arith)
@@ -56,7 +60,8 @@ module _ (starts ends : List Float) where
 
         next : (k : ℕ) → suc k < suc n → Clears k (suc k)
         next k q =
-            let e : T (le (end k) (start (suc k))) = end-start (f k) (f (suc k)) (below k (omega arith)) (below (suc k) q) (next-at clears n f (disjoint (tabulate (suc n) f) h) k (omega arith)) in
+            let e : T (le (end k) (start (suc k))) = end-start (f k) (f (suc k)) (below k (omega arith)) (below (suc k) q)
+            (next-at clears n f (disjoint (tabulate (suc n) f) h) k (omega arith)) in
             record { startsAscend = lt→le (start k) (start (suc k)) (lt-le (start k) (end k) (start (suc k)) (below k (omega arith)) e); past = e }
 
     pub ascent : (count : ℕ) → ascendingDisjoint (fromColumns starts ends colors count) ≡ true → Ascent count

@@ -33,7 +33,8 @@ module _ (starts ends : List Float) (colors : List ℕ) where
   next-few test (suc zero) h = refl
   next-few test (suc (suc i)) h = absurd (omega arith)
 
-  pub next-band-more : (test : LegendBand → LegendBand → Bool) (i : ℕ) → 0 < i → (eachNext test (bands i) && test (f (i - 1)) (f i)) ≡ eachNext test (bands (i + 1))
+  pub next-band-more : (test : LegendBand → LegendBand → Bool) (i : ℕ) → 0 < i → (eachNext test (bands i) && test (f (i - 1)) (f i))
+      ≡ eachNext test (bands (i + 1))
   unfolding fromColumns
   next-band-more test zero h = absurd (omega arith)
   next-band-more test (suc n) h =

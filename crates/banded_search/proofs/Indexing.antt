@@ -9,25 +9,25 @@ use lib.ListN.{getD, replicate}
 use Rattle.lists.specs.Lanes.{LanesOf}
 use Rattle.lists.proofs.LanesOf.{lane-at, lanes-agree, lanes-blank}
 use Rattle.banded_search.specs.forms.Indices.{bandIndex, BandIndices}
-use Rattle.banded_search.proofs.Counting.{place-few, place-more, place-in-arrays}
+use Rattle.banded_search.proofs.Counting.{index-few, index-more, index-in-arrays}
 
 module _ (lanes : ℕ) (starts : List Float) (value : List Float) where
-  placed : (count : ℕ) (places : List ℕ) → count ≤ 64 → LanesOf 0 lanes (λ k. bandIndex starts count (getD value k nan)) places
-      → BandIndices lanes starts count value places
-  placed count places h all =
-      record { counted = all; inArrays = λ k q. subst (λ (p : ℕ). p < 64) (sym (lane-at all 0 k q)) (place-in-arrays starts (getD value k nan) count h) }
+  indexed : (count : ℕ) (indices : List ℕ) → count ≤ 64 → LanesOf 0 lanes (λ k. bandIndex starts count (getD value k nan)) indices
+      → BandIndices lanes starts count value indices
+  indexed count indices h all =
+      record { counted = all; inArrays = λ k q. subst (λ (p : ℕ). p < 64) (sym (lane-at all 0 k q)) (index-in-arrays starts (getD value k nan) count h) }
 
-  pub placed-start : (i : ℕ) → i ≤ 1 → lanes ≤ 16 → BandIndices lanes starts i value (replicate 16 0)
-  placed-start i h g =
-      placed i (replicate 16 0) (omega arith)
-      (lanes-blank 0 lanes (λ k. bandIndex starts i (getD value k nan)) g (λ k q. place-few starts (getD value k nan) i h))
+  pub indexed-start : (i : ℕ) → i ≤ 1 → lanes ≤ 16 → BandIndices lanes starts i value (replicate 16 0)
+  indexed-start i h g =
+      indexed i (replicate 16 0) (omega arith)
+      (lanes-blank 0 lanes (λ k. bandIndex starts i (getD value k nan)) g (λ k q. index-few starts (getD value k nan) i h))
 
   -- start i over the lanes
-  pub placed-turn : {i : ℕ} {places : List ℕ} (next : List ℕ) → 0 < i → i < 64 → BandIndices lanes starts i value places →
-      LanesOf 0 lanes (λ k. getD places k 0 + cond (le (getD starts i nan) (getD value k nan)) 1 0) next → BandIndices lanes starts (i + 1) value next
-  placed-turn {i} next p h s all =
-      placed (i + 1) next (omega arith)
+  pub indexed-turn : {i : ℕ} {indices : List ℕ} (next : List ℕ) → 0 < i → i < 64 → BandIndices lanes starts i value indices →
+      LanesOf 0 lanes (λ k. getD indices k 0 + cond (le (getD starts i nan) (getD value k nan)) 1 0) next → BandIndices lanes starts (i + 1) value next
+  indexed-turn {i} next p h s all =
+      indexed (i + 1) next (omega arith)
       (lanes-agree all
       (λ k q.
       ap (λ (n : ℕ). n + cond (le (getD starts i nan) (getD value k nan)) 1 0) (lane-at (s .counted) 0 k q)
-      ∙ sym (place-more starts (getD value k nan) i p)))
+      ∙ sym (index-more starts (getD value k nan) i p)))

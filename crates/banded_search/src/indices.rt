@@ -1,4 +1,5 @@
-// Ascending disjoint bands, and the index of the one band that can hold a sample, found by counting (docs/RULES.md, "Banded"). A list of bands comes as in `banded_rule`, with a count of at most 64.
+// Ascending disjoint bands, and the index of the one band that can hold a sample, found by counting (docs/RULES.md, "Banded"). A list of bands comes as in
+// `banded_rule`, with a count of at most 64.
 ghost use mathlib.Core.Path.{_≡_};
 ghost use mathlib.Core.Bool.{cond};
 ghost use mathlib.Core.List.{List};
@@ -10,7 +11,7 @@ ghost use Rattle.banded_columns.specs.Order.{startsBelowEnd, clears, eachBand, 
 ghost use Rattle.banded_rule.specs.forms.Columns.{fromColumns};
 ghost use Rattle.banded_search.specs.forms.Indices.{IndicesInBounds, BandIndices};
 
-// Whether each counted band starts below its end and none starts below the end of the one before, whatever their colours: asked once
+// Whether each counted band starts below its end and none starts below the end of the one before, whatever their colours: checked once
 // per painting.
 pub fn ascending_disjoint(starts: &[f32; 64], ends: &[f32; 64], count: usize) -> bool
     requires { ⌜ count ≤ 64 ⌝ }
@@ -64,14 +65,14 @@ pub fn band_indices(lanes: usize, starts: &[f32; 64], count: usize, value: [f32;
 }
 
 // Each lane's index moved on where a start is not above its sample.
-fn advance_indices(lanes: usize, start: f32, value: [f32; 16], places: [u32; 16]) -> [u32; 16]
-    requires { ⌜ (lanes ≤ 16) × IndicesInBounds lanes places ⌝ }
-    ensures { λ r. ⌜ LanesOf 0 lanes (λ k. getD places k 0 + cond (le start (getD value k nan)) 1 0) r ⌝ }
+fn advance_indices(lanes: usize, start: f32, value: [f32; 16], indices: [u32; 16]) -> [u32; 16]
+    requires { ⌜ (lanes ≤ 16) × IndicesInBounds lanes indices ⌝ }
+    ensures { λ r. ⌜ LanesOf 0 lanes (λ k. getD indices k 0 + cond (le start (getD value k nan)) 1 0) r ⌝ }
 {
     let mut result = [0u32; 16];
     let mut i: usize = 0;
     while i < lanes {
-        result[i] = places[i] + ((start <= value[i]) as u32);
+        result[i] = indices[i] + ((start <= value[i]) as u32);
         i += 1;
     }
     result

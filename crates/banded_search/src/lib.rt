@@ -1,4 +1,4 @@
-// Bands that ascend without overlap: at most one of them holds a sample, the one at its place (`banded_search::indices`; docs/RULES.md,
+// Ascending disjoint bands: at most one of them holds a sample, the one at its index (`banded_search::indices`; docs/RULES.md,
 // "Banded"). A list of bands comes as in `banded_rule`, with a count of at most 64.
 pub mod indices;
 
@@ -25,7 +25,8 @@ pub fn colors_for_numeric_values(
     value: [f32; 16],
 ) -> [u32; 16]
     requires { ⌜ (count ≤ 64) × (ascendingDisjoint (fromColumns (now starts) (now ends) (now colors) count) ≡ true) ⌝ }
-    ensures { λ r. ⌜ LanesOf 0 16 (λ k. plainColor (fromColumns (now (starts .entry)) (now (ends .entry)) (now (colors .entry)) count) u (getD value k nan)) r ⌝ }
+    ensures { λ r. ⌜ LanesOf 0 16
+        (λ k. plainColor (fromColumns (now (starts .entry)) (now (ends .entry)) (now (colors .entry)) count) u (getD value k nan)) r ⌝ }
 {
     if count == 0 {
         return [u.nodata; 16];
@@ -33,52 +34,53 @@ pub fn colors_for_numeric_values(
     let first = banded_rule::band_at(starts, ends, colors, 0);
     let last = banded_rule::band_at(starts, ends, colors, count - 1);
     let edged = banded_rule::edge_colors(first, last, u, value);
-    let places = indices::band_indices(16, starts, count, value);
-    colors_at(16, starts, ends, colors, places, value, edged)
+    let indices = indices::band_indices(16, starts, count, value);
+    colors_at(16, starts, ends, colors, indices, value, edged)
 }
 
 // ---- the phases, for a lane count that is a literal of the caller's: so they are vectorised
 
-// The colour of the band at each lane's place where it holds the sample, else another.
+// The colour of the band at each lane's index where it holds the sample, else another.
 pub fn colors_at(
     lanes: usize,
     starts: &[f32; 64],
     ends: &[f32; 64],
     colors: &[u32; 64],
-    places: [u32; 16],
+    indices: [u32; 16],
     value: [f32; 16],
     otherwise: [u32; 16],
 ) -> [u32; 16]
-    requires { ⌜ (lanes ≤ 16) × IndicesInBounds lanes places ⌝ }
-    ensures { λ r. ⌜ LanesOf 0 lanes (λ k. colorAt (now (starts .entry)) (now (ends .entry)) (now (colors .entry)) (getD places k 0) (getD value k nan) (getD otherwise k 0)) r ⌝ }
+    requires { ⌜ (lanes ≤ 16) × IndicesInBounds lanes indices ⌝ }
+    ensures { λ r. ⌜ LanesOf 0 lanes (λ k. colorAt (now (starts .entry)) (now (ends .entry)) (now (colors .entry)) (getD indices k 0) (getD value k nan)
+        (getD otherwise k 0)) r ⌝ }
 {
     let mut result = [0u32; 16];
     let mut i: usize = 0;
     while i < lanes {
-        let place = places[i] as usize;
-        let held = (starts[place] <= value[i]) & (value[i] < ends[place]);
-        result[i] = select::pick(held, colors[place], otherwise[i]);
+        let index = indices[i] as usize;
+        let held = (starts[index] <= value[i]) & (value[i] < ends[index]);
+        result[i] = select::pick(held, colors[index], otherwise[i]);
         i += 1;
     }
     result
 }
 
-// Whether each lane's sample lies in the band at its place.
+// Whether each lane's sample lies in the band at its index.
 pub fn all_held(
     lanes: usize,
     starts: &[f32; 64],
     ends: &[f32; 64],
-    places: [u32; 16],
+    indices: [u32; 16],
     value: [f32; 16],
 ) -> bool
-    requires { ⌜ (lanes ≤ 16) × IndicesInBounds lanes places ⌝ }
-    ensures { λ r. ⌜ r ≡ allBelow lanes (λ k. heldAt (now (starts .entry)) (now (ends .entry)) (getD places k 0) (getD value k nan)) ⌝ }
+    requires { ⌜ (lanes ≤ 16) × IndicesInBounds lanes indices ⌝ }
+    ensures { λ r. ⌜ r ≡ allBelow lanes (λ k. heldAt (now (starts .entry)) (now (ends .entry)) (getD indices k 0) (getD value k nan)) ⌝ }
 {
     let mut all = true;
     let mut i: usize = 0;
     while i < lanes {
-        let place = places[i] as usize;
-        all = all & (starts[place] <= value[i]) & (value[i] < ends[place]);
+        let index = indices[i] as usize;
+        all = all & (starts[index] <= value[i]) & (value[i] < ends[index]);
         i += 1;
     }
     all

@@ -58,7 +58,8 @@ pub extern "C" fn legend_create_banded(
     end: f32,
     settings: LegendSettings,
 ) -> LegendMade
-    ensures { λ r. ⌜ r ≡ madeToC (settingsRefusal settings) (bandedWithSettings (withEqualBands count start end (now (colors .entry))) (settingsFromC settings)) ⌝ }
+    ensures { λ r. ⌜ r ≡ madeToC (settingsRefusal settings) (bandedWithSettings (withEqualBands count start end (now (colors .entry))) (settingsFromC settings))
+        ⌝ }
 {
     let config = settings::settings_from_c(settings);
     let made = legend_builders::create_banded(count, colors, start, end, config);
@@ -73,7 +74,8 @@ pub extern "C" fn legend_create_banded_from_ramp(
     end: f32,
     settings: LegendSettings,
 ) -> LegendMade
-    ensures { λ r. ⌜ r ≡ madeToC (settingsRefusal settings) (bandedWithSettings (withEqualBands count start end (rampColors count (now (ramp .entry)))) (settingsFromC settings)) ⌝ }
+    ensures { λ r. ⌜ r ≡ madeToC (settingsRefusal settings)
+        (bandedWithSettings (withEqualBands count start end (rampColors count (now (ramp .entry)))) (settingsFromC settings)) ⌝ }
 {
     let config = settings::settings_from_c(settings);
     let made = legend_builders::create_banded_from_ramp(count, ramp, start, end, config);
@@ -99,7 +101,8 @@ pub extern "C" fn legend_create_banded_manual_ranges_from_ramp(
     ranges: ValueRanges,
     settings: LegendSettings,
 ) -> LegendMade
-    ensures { λ r. ⌜ r ≡ madeToC (settingsRefusal settings) (bandedWithSettings (withManualRanges ranges (rampColors (ranges .count) (now (ramp .entry)))) (settingsFromC settings)) ⌝ }
+    ensures { λ r. ⌜ r ≡ madeToC (settingsRefusal settings)
+        (bandedWithSettings (withManualRanges ranges (rampColors (ranges .count) (now (ramp .entry)))) (settingsFromC settings)) ⌝ }
 {
     let config = settings::settings_from_c(settings);
     let made = legend_builders::create_banded_manual_ranges_from_ramp(ramp, ranges, config);
@@ -131,7 +134,8 @@ pub extern "C" fn legend_create_categoric_for_value_list(
     values: &[i64],
     settings: LegendSettings,
 ) -> LegendMade
-    ensures { λ r. ⌜ r ≡ madeToC (settingsRefusal settings) (categoricWithSettings (forValues (now (values .entry)) (now (colors .entry))) (settingsFromC settings)) ⌝ }
+    ensures { λ r. ⌜ r ≡ madeToC (settingsRefusal settings)
+        (categoricWithSettings (forValues (now (values .entry)) (now (colors .entry))) (settingsFromC settings)) ⌝ }
 {
     let config = settings::settings_from_c(settings);
     let made = legend_builders::create_categoric_for_value_list(colors, values, config);
@@ -144,7 +148,8 @@ pub extern "C" fn legend_create_categoric_for_value_list_from_ramp(
     values: &[i64],
     settings: LegendSettings,
 ) -> LegendMade
-    ensures { λ r. ⌜ r ≡ madeToC (settingsRefusal settings) (categoricWithSettings (forValuesFromRamp (now (values .entry)) (now (ramp .entry))) (settingsFromC settings)) ⌝ }
+    ensures { λ r. ⌜ r ≡ madeToC (settingsRefusal settings)
+        (categoricWithSettings (forValuesFromRamp (now (values .entry)) (now (ramp .entry))) (settingsFromC settings)) ⌝ }
 {
     let config = settings::settings_from_c(settings);
     let made = legend_builders::create_categoric_for_value_list_from_ramp(ramp, values, config);
@@ -172,7 +177,8 @@ pub extern "C" fn legend_create_categoric_for_value_range_from_ramp(
     end: i64,
     settings: LegendSettings,
 ) -> LegendMade
-    ensures { λ r. ⌜ r ≡ madeToC (settingsRefusal settings) (categoricWithSettings (forValueRangeFromRamp start end (now (ramp .entry))) (settingsFromC settings)) ⌝ }
+    ensures { λ r. ⌜ r ≡ madeToC (settingsRefusal settings)
+        (categoricWithSettings (forValueRangeFromRamp start end (now (ramp .entry))) (settingsFromC settings)) ⌝ }
 {
     let config = settings::settings_from_c(settings);
     let made = legend_builders::create_categoric_for_value_range_from_ramp(

@@ -38,7 +38,7 @@ module _ (l : Legend) (v : Nodata) {asked first : Answer} (f : first ≡ asked) 
       let a : Refused why ≡ laneAnswer p L xs out scratch = lane-stored L (length scratch) (length xs) (length out) stored in
       record { answer = r ∙ ap answerToC (e ∙ a); painting = lane-refused p xs out refl L scratch refl (sym a) }
 
--- the legend is lent with the head and the nodata value that the code made, which are those that the contract names
+-- the legend is lent with the view and the nodata value that the code made, which are those that the contract names
 module _ (cmap : List ℕ) (keys : List ℤ) (colors lookup : List ℕ) {asked first : Answer} (f : first ≡ asked) (e : first ≡ Done)
     {h h' : View} (eh : h' ≡ h) {v v' : Nodata} (ev : v' ≡ v) where
   abbrev lent : View → Legend

@@ -1,4 +1,4 @@
--- Painting as C calls it: by the legend that is lent, refused first by what the call's own flags and kind are refused by; the answer as C reads it.
+-- Painting as C calls it: by the legend that is borrowed, refused first by what the call's own flags and kind are refused by; the answer as C reads it.
 -- Definitions only.
 use Prim.Native.Nat.{ℕ}
 use mathlib.Core.Path.{_≡_}
@@ -17,7 +17,7 @@ use Rattle.c_types.specs.Refusals.{useRefusal}
 use Rattle.c_records.specs.declared.view.LegendView.{LegendView}
 use Rattle.c_records.specs.Views.{viewFromC}
 
--- the legend that is lent
+-- the legend that is borrowed
 abbrev pub legendOfView : LegendView → Banded → (cmap : List ℕ) (keys : List ℤ) (colors lookup : List ℕ) → Legend
 legendOfView view banded cmap keys colors lookup = borrowedLegend (viewFromC view banded) cmap keys colors lookup
 

@@ -27,7 +27,8 @@ pub extern "C" fn legend_view_paint_lanes_f32(
     out: &mut [u32],
     scratch: &mut [u32],
 ) -> LegendAnswer
-    ensures { λ r. ⌜ LaneOutcome (painterOfView view banded (now (cmap .entry)) (now (keys .entry)) (now (colors .entry)) (now (lookup .entry)) «nodata_given» (nodataIf «nodata_given» nodata)) lanes (now (src .entry)) (now (out .entry)) (now (scratch .entry)) r (now (out .exit)) (now (scratch .exit)) ⌝ }
+    ensures { λ r. ⌜ LaneOutcome (painterOfView view banded (now (cmap .entry)) (now (keys .entry)) (now (colors .entry)) (now (lookup .entry)) «nodata_given»
+        (nodataIf «nodata_given» nodata)) lanes (now (src .entry)) (now (out .entry)) (now (scratch .entry)) r (now (out .exit)) (now (scratch .exit)) ⌝ }
 {
     let first = refusals::use_refusal(view.settings, view.kind, nodata_given);
     if let Answer::Refused(_) = first {
@@ -62,7 +63,9 @@ pub extern "C" fn legend_view_paint_lanes_u8(
     out: &mut [u32],
     scratch: &mut [u32],
 ) -> LegendAnswer
-    ensures { λ r. ⌜ LaneOutcome (painterOfView view banded (now (cmap .entry)) (now (keys .entry)) (now (colors .entry)) (now (lookup .entry)) «nodata_given» (nodataIf «nodata_given» (ofU8 nodata))) lanes (map ofU8 (now (src .entry))) (now (out .entry)) (now (scratch .entry)) r (now (out .exit)) (now (scratch .exit)) ⌝ }
+    ensures { λ r. ⌜ LaneOutcome (painterOfView view banded (now (cmap .entry)) (now (keys .entry)) (now (colors .entry)) (now (lookup .entry)) «nodata_given»
+        (nodataIf «nodata_given» (ofU8 nodata))) lanes (map ofU8 (now (src .entry))) (now (out .entry)) (now (scratch .entry)) r (now (out .exit))
+        (now (scratch .exit)) ⌝ }
 {
     let first = refusals::use_refusal(view.settings, view.kind, nodata_given);
     if let Answer::Refused(_) = first {
@@ -97,7 +100,9 @@ pub extern "C" fn legend_view_paint_lanes_i16(
     out: &mut [u32],
     scratch: &mut [u32],
 ) -> LegendAnswer
-    ensures { λ r. ⌜ LaneOutcome (painterOfView view banded (now (cmap .entry)) (now (keys .entry)) (now (colors .entry)) (now (lookup .entry)) «nodata_given» (nodataIf «nodata_given» (ofI16 nodata))) lanes (map ofI16 (now (src .entry))) (now (out .entry)) (now (scratch .entry)) r (now (out .exit)) (now (scratch .exit)) ⌝ }
+    ensures { λ r. ⌜ LaneOutcome (painterOfView view banded (now (cmap .entry)) (now (keys .entry)) (now (colors .entry)) (now (lookup .entry)) «nodata_given»
+        (nodataIf «nodata_given» (ofI16 nodata))) lanes (map ofI16 (now (src .entry))) (now (out .entry)) (now (scratch .entry)) r (now (out .exit))
+        (now (scratch .exit)) ⌝ }
 {
     let first = refusals::use_refusal(view.settings, view.kind, nodata_given);
     if let Answer::Refused(_) = first {

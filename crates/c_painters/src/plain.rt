@@ -25,7 +25,8 @@ pub extern "C" fn legend_view_paint_f32(
     nodata: f32,
     out: &mut [u32],
 ) -> LegendAnswer
-    ensures { λ r. ⌜ PlainOutcome (painterOfView view banded (now (cmap .entry)) (now (keys .entry)) (now (colors .entry)) (now (lookup .entry)) «nodata_given» (nodataIf «nodata_given» nodata)) (now (src .entry)) (now (out .entry)) r (now (out .exit)) ⌝ }
+    ensures { λ r. ⌜ PlainOutcome (painterOfView view banded (now (cmap .entry)) (now (keys .entry)) (now (colors .entry)) (now (lookup .entry)) «nodata_given»
+        (nodataIf «nodata_given» nodata)) (now (src .entry)) (now (out .entry)) r (now (out .exit)) ⌝ }
 {
     let first = refusals::use_refusal(view.settings, view.kind, nodata_given);
     if let Answer::Refused(_) = first {
@@ -56,7 +57,8 @@ pub extern "C" fn legend_view_paint_u8(
     nodata: u8,
     out: &mut [u32],
 ) -> LegendAnswer
-    ensures { λ r. ⌜ PlainOutcome (painterOfView view banded (now (cmap .entry)) (now (keys .entry)) (now (colors .entry)) (now (lookup .entry)) «nodata_given» (nodataIf «nodata_given» (ofU8 nodata))) (map ofU8 (now (src .entry))) (now (out .entry)) r (now (out .exit)) ⌝ }
+    ensures { λ r. ⌜ PlainOutcome (painterOfView view banded (now (cmap .entry)) (now (keys .entry)) (now (colors .entry)) (now (lookup .entry)) «nodata_given»
+        (nodataIf «nodata_given» (ofU8 nodata))) (map ofU8 (now (src .entry))) (now (out .entry)) r (now (out .exit)) ⌝ }
 {
     let first = refusals::use_refusal(view.settings, view.kind, nodata_given);
     if let Answer::Refused(_) = first {
@@ -87,7 +89,8 @@ pub extern "C" fn legend_view_paint_i16(
     nodata: i16,
     out: &mut [u32],
 ) -> LegendAnswer
-    ensures { λ r. ⌜ PlainOutcome (painterOfView view banded (now (cmap .entry)) (now (keys .entry)) (now (colors .entry)) (now (lookup .entry)) «nodata_given» (nodataIf «nodata_given» (ofI16 nodata))) (map ofI16 (now (src .entry))) (now (out .entry)) r (now (out .exit)) ⌝ }
+    ensures { λ r. ⌜ PlainOutcome (painterOfView view banded (now (cmap .entry)) (now (keys .entry)) (now (colors .entry)) (now (lookup .entry)) «nodata_given»
+        (nodataIf «nodata_given» (ofI16 nodata))) (map ofI16 (now (src .entry))) (now (out .entry)) r (now (out .exit)) ⌝ }
 {
     let first = refusals::use_refusal(view.settings, view.kind, nodata_given);
     if let Answer::Refused(_) = first {

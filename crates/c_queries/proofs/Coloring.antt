@@ -1,4 +1,4 @@
--- The colour of a sample as C asks for it, from what the code found: the head, the nodata value and the sample that it made are those
+-- The colour of a sample as C asks for it, from what the code found: the view, the nodata value and the sample that it made are those
 -- that the contract names. Assumes nothing.
 use mathlib.Core.Path.{_≡_, _∙_}
 use mathlib.Core.List.{List}
@@ -19,4 +19,5 @@ pub color-is : (cmap : List ℕ) (keys : List ℤ) (colors lookup : List ℕ)
     {result : LegendColor} {asked first : Answer} {pixel : PixelColor} {h h' : View} {v v' : Nodata} {x x' : Float}
     → result ≡ pixelToC first pixel → first ≡ asked → pixel ≡ colorForValue (borrowedLegend h' cmap keys colors lookup) v' x'
     → h' ≡ h → v' ≡ v → x' ≡ x → result ≡ pixelToC asked (colorForValue (borrowedLegend h cmap keys colors lookup) v x)
-color-is cmap keys colors lookup r f p eh ev ex = with-both pixelToC r f (p ∙ (λ j. colorForValue (borrowedLegend (eh j) cmap keys colors lookup) (ev j) (ex j)))
+color-is cmap keys colors lookup r f p eh ev ex =
+    with-both pixelToC r f (p ∙ (λ j. colorForValue (borrowedLegend (eh j) cmap keys colors lookup) (ev j) (ex j)))

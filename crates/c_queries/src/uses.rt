@@ -22,7 +22,7 @@ ghost use Rattle.c_records.specs.Records.{legendFromC};
 ghost use Rattle.c_types.specs.Samples.{nodataIf};
 ghost use Rattle.c_answers.specs.Uses.{pixelToC, rangeToC, listToC};
 
-// ---- the colour of a sample, by a legend whose arrays are lent
+// ---- the colour of a sample, by a legend whose arrays are borrowed
 
 #[no_mangle]
 pub extern "C" fn legend_view_color_for_f32(
@@ -36,7 +36,9 @@ pub extern "C" fn legend_view_color_for_f32(
     nodata_given: u32,
     nodata: f32,
 ) -> LegendColor
-    ensures { λ r. ⌜ r ≡ pixelToC (useRefusal (view .settings) (view .kind) «nodata_given») (colorForValue (borrowedLegend (viewFromC view banded) (now (cmap .entry)) (now (keys .entry)) (now (colors .entry)) (now (lookup .entry))) (nodataIf «nodata_given» nodata) value) ⌝ }
+    ensures { λ r. ⌜ r ≡ pixelToC (useRefusal (view .settings) (view .kind) «nodata_given»)
+        (colorForValue (borrowedLegend (viewFromC view banded) (now (cmap .entry)) (now (keys .entry)) (now (colors .entry)) (now (lookup .entry)))
+        (nodataIf «nodata_given» nodata) value) ⌝ }
 {
     let pixel = legend_pixel::color_for_value(
         view::view_from_c(view, banded),
@@ -65,7 +67,9 @@ pub extern "C" fn legend_view_color_for_u8(
     nodata_given: u32,
     nodata: u8,
 ) -> LegendColor
-    ensures { λ r. ⌜ r ≡ pixelToC (useRefusal (view .settings) (view .kind) «nodata_given») (colorForValue (borrowedLegend (viewFromC view banded) (now (cmap .entry)) (now (keys .entry)) (now (colors .entry)) (now (lookup .entry))) (nodataIf «nodata_given» (ofU8 nodata)) (ofU8 value)) ⌝ }
+    ensures { λ r. ⌜ r ≡ pixelToC (useRefusal (view .settings) (view .kind) «nodata_given»)
+        (colorForValue (borrowedLegend (viewFromC view banded) (now (cmap .entry)) (now (keys .entry)) (now (colors .entry)) (now (lookup .entry)))
+        (nodataIf «nodata_given» (ofU8 nodata)) (ofU8 value)) ⌝ }
 {
     let pixel = legend_pixel::color_for_value(
         view::view_from_c(view, banded),
@@ -94,7 +98,9 @@ pub extern "C" fn legend_view_color_for_i16(
     nodata_given: u32,
     nodata: i16,
 ) -> LegendColor
-    ensures { λ r. ⌜ r ≡ pixelToC (useRefusal (view .settings) (view .kind) «nodata_given») (colorForValue (borrowedLegend (viewFromC view banded) (now (cmap .entry)) (now (keys .entry)) (now (colors .entry)) (now (lookup .entry))) (nodataIf «nodata_given» (ofI16 nodata)) (ofI16 value)) ⌝ }
+    ensures { λ r. ⌜ r ≡ pixelToC (useRefusal (view .settings) (view .kind) «nodata_given»)
+        (colorForValue (borrowedLegend (viewFromC view banded) (now (cmap .entry)) (now (keys .entry)) (now (colors .entry)) (now (lookup .entry)))
+        (nodataIf «nodata_given» (ofI16 nodata)) (ofI16 value)) ⌝ }
 {
     let pixel = legend_pixel::color_for_value(
         view::view_from_c(view, banded),

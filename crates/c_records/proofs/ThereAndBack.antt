@@ -1,4 +1,5 @@
--- What a builder made is what it is used as: a legend, laid flat for C and read back, is the same legend, and the interface refuses nothing of it. Assumes nothing.
+-- What a builder made is what it is used as: a legend, laid flat for C and read back, is the same legend, and the interface refuses nothing of it. Assumes
+-- nothing.
 use mathlib.Core.Path.{_≡_, refl}
 use mathlib.Core.Bool.{Bool, true, false}
 use lib.Dec.{ltb, eqb}
@@ -29,11 +30,24 @@ kind-back CategoricNumeric = refl
 
 pub settings-back : (c : MappingConfig) → settingsFromC (settingsToC c) ≡ c
 unfolding settingsFromC settingsToC
-settings-back c = λ j. record { «nodata_color» = c .«nodata_color»; «out_of_range_low_color» = color-back (c .«out_of_range_low_color») j; «out_of_range_high_color» = color-back (c .«out_of_range_high_color») j; «zero_is_nodata» = flag-back (c .«zero_is_nodata») j }
+settings-back c =
+    λ j. record {
+      «nodata_color» = c .«nodata_color»;
+      «out_of_range_low_color» = color-back (c .«out_of_range_low_color») j;
+      «out_of_range_high_color» = color-back (c .«out_of_range_high_color») j;
+      «zero_is_nodata» = flag-back (c .«zero_is_nodata») j;
+    }
 
 pub legend-back : (l : Legend) → legendFromC (recordToC l) ≡ l
 unfolding legendFromC recordToC
-legend-back l = λ j. record { kind = kind-back (l .kind) j; linear = l .linear; banded = l .banded; categoric = l .categoric; «mapping_config» = settings-back (l .«mapping_config») j }
+legend-back l =
+    λ j. record {
+      kind = kind-back (l .kind) j;
+      linear = l .linear;
+      banded = l .banded;
+      categoric = l .categoric;
+      «mapping_config» = settings-back (l .«mapping_config») j;
+    }
 
 color-flag : (o : OptionalColor) → ltb (givenFlag o) 2 ≡ true
 color-flag (Given c) = refl
@@ -50,4 +64,10 @@ kind-known CategoricNumeric = refl
 
 pub flat-used : (l : Legend) → legendRefusal (recordToC l .settings) (recordToC l .kind) ≡ Done
 unfolding legendRefusal settingsRefusal recordToC settingsToC
-flat-used l = let c = l .«mapping_config» in simp (color-flag (c .«out_of_range_low_color»), color-flag (c .«out_of_range_high_color»), bool-flag (c .«zero_is_nodata»), kind-known (l .kind))
+flat-used l =
+    let c = l .«mapping_config» in simp (
+      color-flag (c .«out_of_range_low_color»),
+      color-flag (c .«out_of_range_high_color»),
+      bool-flag (c .«zero_is_nodata»),
+      kind-known (l .kind),
+    )

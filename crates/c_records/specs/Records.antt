@@ -19,7 +19,8 @@ abbrev pub kindFromC : ℕ → LegendKind
 kindFromC n = cond (eqb n 0) Linear (cond (eqb n 1) Banded CategoricNumeric)
 
 unfoldable pub legendFromC : LegendRecord → Legend
-legendFromC r = record { kind = kindFromC (r .kind); linear = r .linear; banded = r .banded; categoric = r .categoric; «mapping_config» = settingsFromC (r .settings) }
+legendFromC r =
+    record { kind = kindFromC (r .kind); linear = r .linear; banded = r .banded; categoric = r .categoric; «mapping_config» = settingsFromC (r .settings) }
 
 abbrev pub kindToC : LegendKind → ℕ
 kindToC Linear = 0
@@ -27,7 +28,13 @@ kindToC Banded = 1
 kindToC CategoricNumeric = 2
 
 unfoldable pub recordToC : Legend → LegendRecord
-recordToC l = record { kind = kindToC (l .kind); settings = settingsToC (l .«mapping_config»); linear = l .linear; banded = l .banded; categoric = l .categoric }
+recordToC l = record {
+  kind = kindToC (l .kind);
+  settings = settingsToC (l .«mapping_config»);
+  linear = l .linear;
+  banded = l .banded;
+  categoric = l .categoric;
+}
 
 -- what a builder made; what the call's own arguments are refused by comes first, with the empty legend
 unfoldable pub madeToC : (first : Answer) → MadeLegend → LegendMade

@@ -12,7 +12,13 @@ abbrev pub colorIf : (given color : ℕ) → OptionalColor
 colorIf given color = cond (eqb given 1) (Given color) Absent
 
 unfoldable pub settingsFromC : LegendSettings → MappingConfig
-settingsFromC s = record { «nodata_color» = s .«nodata_color»; «out_of_range_low_color» = colorIf (s .«has_low») (s .«low_color»); «out_of_range_high_color» = colorIf (s .«has_high») (s .«high_color»); «zero_is_nodata» = eqb (s .«zero_is_nodata») 1 }
+settingsFromC s =
+    record {
+      «nodata_color» = s .«nodata_color»;
+      «out_of_range_low_color» = colorIf (s .«has_low») (s .«low_color»);
+      «out_of_range_high_color» = colorIf (s .«has_high») (s .«high_color»);
+      «zero_is_nodata» = eqb (s .«zero_is_nodata») 1;
+    }
 
 abbrev pub flagOf : Bool → ℕ
 flagOf b = cond b 1 0
@@ -23,4 +29,12 @@ givenFlag Absent = 0
 
 -- the colour 0 where none is given
 unfoldable pub settingsToC : MappingConfig → LegendSettings
-settingsToC c = record { «nodata_color» = c .«nodata_color»; «low_color» = orElse (c .«out_of_range_low_color») 0; «high_color» = orElse (c .«out_of_range_high_color») 0; «has_low» = givenFlag (c .«out_of_range_low_color»); «has_high» = givenFlag (c .«out_of_range_high_color»); «zero_is_nodata» = flagOf (c .«zero_is_nodata») }
+settingsToC c =
+    record {
+      «nodata_color» = c .«nodata_color»;
+      «low_color» = orElse (c .«out_of_range_low_color») 0;
+      «high_color» = orElse (c .«out_of_range_high_color») 0;
+      «has_low» = givenFlag (c .«out_of_range_low_color»);
+      «has_high» = givenFlag (c .«out_of_range_high_color»);
+      «zero_is_nodata» = flagOf (c .«zero_is_nodata»);
+    }

@@ -4,7 +4,8 @@ use mathlib.Core.Path.{_≡_, refl, sym, ap, _∙_, subst}
 use mathlib.Core.Logic.{inl, inr}
 use mathlib.Core.Bool.{Bool, true, false, cond}
 use Prim.Native.Nat.{ℕ, zero, suc, _+_, _-_, _*_, _/_, _%_, _^_, _≤_, _<_}
-use native.Mathlib.Nat.{le-of-lt, le-of-eq, le-trans, lt-of-lt-of-le, lt-of-le-of-lt, mul-assoc, mod-lt, div-lt-iff-lt-mul, mul-le-mul-right, le-add-right, not-le-of-lt, eq-or-lt-of-le, mul-lt-mul-of-pos-right}
+use native.Mathlib.Nat.{le-of-lt, le-of-eq, le-trans, lt-of-lt-of-le, lt-of-le-of-lt, mul-assoc, mod-lt, div-lt-iff-lt-mul, mul-le-mul-right, le-add-right}
+use native.Mathlib.Nat.{not-le-of-lt, eq-or-lt-of-le, mul-lt-mul-of-pos-right}
 use native.Mathlib.Omega.{arith}
 use lib.IntN.{ℤ, pos, negsuc, negℤ, _-ℤ_, +ℤ-idl}
 use mir.Syntax.{w64}
@@ -37,14 +38,17 @@ digits-lt b = omega arith
 
 -- ---- the shifts
 shifted-down : (q F : ℕ) → 1 ≤ F → F ≤ 150 → q / 2 ^ (150 - F) ≡ q * 2 ^ (F - 1) / 2 ^ 149
-shifted-down q F h k = ap (λ (n : ℕ). n / 2 ^ (150 - F)) (sym (shl-shr q (F - 1))) ∙ shr-shr (q * 2 ^ (F - 1)) (F - 1) (150 - F) ∙ ap (λ (n : ℕ). q * 2 ^ (F - 1) / 2 ^ n) (join F h k)
+shifted-down q F h k =
+    ap (λ (n : ℕ). n / 2 ^ (150 - F)) (sym (shl-shr q (F - 1))) ∙ shr-shr (q * 2 ^ (F - 1)) (F - 1) (150 - F) ∙ ap (λ (n : ℕ). q * 2 ^ (F - 1) / 2 ^ n)
+    (join F h k)
   where
     join : (F : ℕ) → 1 ≤ F → F ≤ 150 → F - 1 + (150 - F) ≡ 149
     join F h k = omega arith
 
 shifted-up : (q F : ℕ) → 150 ≤ F → q * 2 ^ (F - 150) ≡ q * 2 ^ (F - 1) / 2 ^ 149
 shifted-up q F h =
-    sym (ap (λ (k : ℕ). k / 2 ^ 149) (ap (λ (k : ℕ). q * 2 ^ k) (join F h) ∙ ap (λ (k : ℕ). q * k) (pow-add 2 (F - 150) 149) ∙ sym (mul-assoc q (2 ^ (F - 150)) (2 ^ 149))) ∙ shl-shr (q * 2 ^ (F - 150)) 149)
+    sym (ap (λ (k : ℕ). k / 2 ^ 149) (ap (λ (k : ℕ). q * 2 ^ k) (join F h) ∙ ap (λ (k : ℕ). q * k) (pow-add 2 (F - 150) 149)
+    ∙ sym (mul-assoc q (2 ^ (F - 150)) (2 ^ 149))) ∙ shl-shr (q * 2 ^ (F - 150)) 149)
   where
     join : (F : ℕ) → 150 ≤ F → F - 1 ≡ F - 150 + 149
     join F h = omega arith
@@ -85,7 +89,9 @@ read : (s : Bool) (F t : ℕ) → F < 255 → HasValue (ofFields binary32 s F t)
 unfolding ofFields
 read s zero t h = odd-sign 24 s t 0 149
 read s (suc x) t h =
-    subst (λ (v : Float). HasValue v s ((2 ^ 23 + t) * 2 ^ (suc x - 1)) (2 ^ 149)) (sym (cond-no (eqb (suc x) 255) (cond (eqb t 0) (inf s) nan) (odd 24 s (2 ^ 23 + t) x 149) (not-T (eqb (suc x) 255) (λ (u : T (eqb (suc x) 255)). differ (suc x) h (eqb→eq (suc x) 255 u)))))
+    subst (λ (v : Float). HasValue v s ((2 ^ 23 + t) * 2 ^ (suc x - 1)) (2 ^ 149))
+    (sym (cond-no (eqb (suc x) 255) (cond (eqb t 0) (inf s) nan) (odd 24 s (2 ^ 23 + t) x 149)
+    (not-T (eqb (suc x) 255) (λ (u : T (eqb (suc x) 255)). differ (suc x) h (eqb→eq (suc x) 255 u)))))
     (subst (λ (k : ℕ). HasValue (odd 24 s (2 ^ 23 + t) x 149) s ((2 ^ 23 + t) * 2 ^ k) (2 ^ 149)) (back x) (odd-sign 24 s (2 ^ 23 + t) x 149))
   where
     differ : (x : ℕ) → x < 255 → x ≡ 255 → ⊥
@@ -148,7 +154,9 @@ module _ (x : Float) (f : T (fits binary32 x)) where
   is = sym (ofBits-toBits binary32 x f) ∙ fields-of b
 
   at-bits : field b < 255 → truncated x ≡ truncatedFraction s (mant (field b) (b % 2 ^ 23) * 2 ^ (field b - 1)) (2 ^ 149)
-  at-bits h = ap truncated is ∙ at-value (ofFields binary32 s (field b) (b % 2 ^ 23)) s (mant (field b) (b % 2 ^ 23) * 2 ^ (field b - 1)) (2 ^ 149) (pow-pos 149) (read s (field b) (b % 2 ^ 23) h)
+  at-bits h =
+      ap truncated is ∙ at-value (ofFields binary32 s (field b) (b % 2 ^ 23)) s (mant (field b) (b % 2 ^ 23) * 2 ^ (field b - 1)) (2 ^ 149) (pow-pos 149)
+      (read s (field b) (b % 2 ^ 23) h)
 
   pub small : field b < 127 → truncated x ≡ Whole (pos 0)
   small h =

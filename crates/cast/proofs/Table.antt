@@ -40,13 +40,17 @@ second-fails true q t h = h
 not-above : (m : ℕ) (e : ℤ) → T (not (lt minusOne (fin true m e) && lt (fin true m e) tableEnd)) → down e ≤ m * up e
 unfolding ofBits lt
 not-above m e h =
-    let l = nltb→le (m * up e * 1) (1 * 1 * down e) (first-fails (ltb (m * up e * 1) (1 * 1 * down e)) (ltb 0 (m * up e * 1 + 513 * 1 * down e)) (lt→ltb 0 (m * up e * 1 + 513 * 1 * down e) (omega (arith, down-pos e))) h) in
+    let l = nltb→le (m * up e * 1) (1 * 1 * down e)
+    (first-fails (ltb (m * up e * 1) (1 * 1 * down e)) (ltb 0 (m * up e * 1 + 513 * 1 * down e))
+    (lt→ltb 0 (m * up e * 1 + 513 * 1 * down e) (omega (arith, down-pos e))) h) in
     omega arith
 
 not-below : (m : ℕ) (e : ℤ) → T (not (lt minusOne (fin false m e) && lt (fin false m e) tableEnd)) → 513 * down e ≤ m * up e
 unfolding ofBits lt
 not-below m e h =
-    let l = nltb→le (m * up e * 1) (513 * 1 * down e) (second-fails (ltb 0 (1 * 1 * down e + m * up e * 1)) (ltb (m * up e * 1) (513 * 1 * down e)) (lt→ltb 0 (1 * 1 * down e + m * up e * 1) (omega (arith, down-pos e))) h) in
+    let l = nltb→le (m * up e * 1) (513 * 1 * down e)
+    (second-fails (ltb 0 (1 * 1 * down e + m * up e * 1)) (ltb (m * up e * 1) (513 * 1 * down e))
+    (lt→ltb 0 (1 * 1 * down e + m * up e * 1) (omega (arith, down-pos e))) h) in
     omega arith
 
 -- ---- above -1 and below 513
@@ -98,5 +102,6 @@ pub missed : (x : Float) → T (not (lt minusOne x && lt x tableEnd)) → Missed
 unfolding ofBits lt truncated
 missed nan h = tt
 missed (inf s) h = tt
-missed (fin true m e) h = missed-cut true (m * up e) (down e) (negative (m * up e / down e) (le-div-iff-mul-le (down-pos e) .1 (let l = not-above m e h in omega arith)))
+missed (fin true m e) h =
+    missed-cut true (m * up e) (down e) (negative (m * up e / down e) (le-div-iff-mul-le (down-pos e) .1 (let l = not-above m e h in omega arith)))
 missed (fin false m e) h = missed-cut false (m * up e) (down e) (le-div-iff-mul-le (down-pos e) .1 (not-below m e h))

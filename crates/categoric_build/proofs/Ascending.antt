@@ -64,7 +64,8 @@ module _ (key : ℤ) (color : ℕ) where
       go rest true u f g = let b = both (underNext (c .key) (keysOf cs)) (ascending (keysOf cs)) e in ap₂ _&&_ (under (c .key) cs f (b .0)) (rest (b .1))
       go rest false true f g = ap₂ _&&_ g e
       go rest false false f g =
-          subst (λ (k : ℤ). (underNext k (keysOf cs) && ascending (keysOf cs)) ≡ true) (equal (c .key) key (omega (arith, lt-no (c .key) key f, lt-no key (c .key) g))) e
+          subst (λ (k : ℤ). (underNext k (keysOf cs) && ascending (keysOf cs)) ≡ true)
+          (equal (c .key) key (omega (arith, lt-no (c .key) key f, lt-no key (c .key) g))) e
 
 first-ascend : (n : ℕ) (keys : List ℤ) (colors : List ℕ) → ascending (keysOf (insertedUpTo n keys colors)) ≡ true
 unfolding insertedUpTo ascending

@@ -44,8 +44,10 @@ as-stored : {A : Type 0} {over b : Bool} {at p : ℕ} (count : ℕ) (x : A) (a :
 as-stored {over = over} {b = b} {at = at} {p = p} count x a e i = ap₂ (λ (t : Bool) (n : ℕ). stored t n count x a) e (sym i)
 
 -- ---- the code's two ways; k is the key as the code holds it
-module _ {k key : ℤ} {color p : ℕ} {keys' : List ℤ} {colors' : List ℕ} (keys : List ℤ) (colors : List ℕ) (count : ℕ) (same : k ≡ key) (is : p ≡ insertionIndex k (take count keys)) where
-  pub put-over : p < count → leZ (getD keys p (pos 0)) k ≡ true → keys' ≡ set keys p k → colors' ≡ set colors p color → Inserted key color keys colors count keys' colors' count
+module _ {k key : ℤ} {color p : ℕ} {keys' : List ℤ} {colors' : List ℕ} (keys : List ℤ) (colors : List ℕ) (count : ℕ) (same : k ≡ key)
+    (is : p ≡ insertionIndex k (take count keys)) where
+  pub put-over : p < count → leZ (getD keys p (pos 0)) k ≡ true → keys' ≡ set keys p k → colors' ≡ set colors p color
+      → Inserted key color keys colors count keys' colors' count
   put-over h t e f =
       let b : isPresent k keys count ≡ true = it-stands k keys count is h t in
       subst (λ z. Inserted z color keys colors count keys' colors' count) same
@@ -55,7 +57,8 @@ module _ {k key : ℤ} {color p : ℕ} {keys' : List ℤ} {colors' : List ℕ} (
         count-is = sym (ap (λ (t : Bool). cond t count (count + 1)) b);
       })
 
-  pub put-new : (p < count → leZ (getD keys p (pos 0)) k ≡ false) → keys' ≡ set (shiftedUp p count keys) p k → colors' ≡ set (shiftedUp p count colors) p color → Inserted key color keys colors count keys' colors' (count + 1)
+  pub put-new : (p < count → leZ (getD keys p (pos 0)) k ≡ false) → keys' ≡ set (shiftedUp p count keys) p k → colors' ≡ set (shiftedUp p count colors) p color
+      → Inserted key color keys colors count keys' colors' (count + 1)
   put-new t e f =
       let b : isPresent k keys count ≡ false = it-does-not k keys count is t in
       subst (λ z. Inserted z color keys colors count keys' colors' (count + 1)) same
@@ -66,7 +69,8 @@ module _ {k key : ℤ} {color p : ℕ} {keys' : List ℤ} {colors' : List ℕ} (
       })
 
 -- ---- arrays that hold some categories
-module _ {key : ℤ} {color count count' : ℕ} {keys keys' : List ℤ} {colors colors' : List ℕ} {cs : List Category} (few : count < 256) (s : HoldsCategories cs keys colors count) (put : Inserted key color keys colors count keys' colors' count') where
+module _ {key : ℤ} {color count count' : ℕ} {keys keys' : List ℤ} {colors colors' : List ℕ} {cs : List Category} (few : count < 256)
+    (s : HoldsCategories cs keys colors count) (put : Inserted key color keys colors count keys' colors' count') where
   abbrev at : ℕ
   at = insertionIndex key (take count keys)
 
@@ -74,13 +78,15 @@ module _ {key : ℤ} {color count count' : ℕ} {keys keys' : List ℤ} {colors 
   over h t =
       let b : isPresent key keys count ≡ true = it-stands key keys count refl h t in
       subst (HoldsCategories (inserted key color cs) keys' colors') (sym (put .count-is ∙ ap (λ (t : Bool). cond t count (count + 1)) b))
-      (holds-over key color at s refl h t (put .keys-are ∙ as-stored count key keys b refl ∙ over-is at count key keys) (put .colors-are ∙ as-stored count color colors b refl ∙ over-is at count color colors))
+      (holds-over key color at s refl h t (put .keys-are ∙ as-stored count key keys b refl ∙ over-is at count key keys)
+      (put .colors-are ∙ as-stored count color colors b refl ∙ over-is at count color colors))
 
   new : (at < count → leZ (getD keys at (pos 0)) key ≡ false) → HoldsCategories (inserted key color cs) keys' colors' count'
   new t =
       let b : isPresent key keys count ≡ false = it-does-not key keys count refl t in
       subst (HoldsCategories (inserted key color cs) keys' colors') (sym (put .count-is ∙ ap (λ (t : Bool). cond t count (count + 1)) b))
-      (holds-new key color at s refl few t (put .keys-are ∙ as-stored count key keys b refl ∙ new-is at count key keys) (put .colors-are ∙ as-stored count color colors b refl ∙ new-is at count color colors))
+      (holds-new key color at s refl few t (put .keys-are ∙ as-stored count key keys b refl ∙ new-is at count key keys)
+      (put .colors-are ∙ as-stored count color colors b refl ∙ new-is at count color colors))
 
   pub holds-put : HoldsCategories (inserted key color cs) keys' colors' count'
   holds-put = go (leZ (getD keys at (pos 0)) key) refl

@@ -30,24 +30,28 @@ module _ {A : Type 0} (z : A) where
       ∙ append-assoc (take at a) (getD a at z ∷ []) (drop at (take count a) ++ drop (count + 1) a)
 
   -- one move
-  pub moved-turn : (i m count : ℕ) (a : List A) → i ≡ suc m → i ≤ count → count < length a → set (shiftedUp i count a) i (getD (shiftedUp i count a) m z) ≡ shiftedUp m count a
+  pub moved-turn : (i m count : ℕ) (a : List A) → i ≡ suc m → i ≤ count → count < length a → set (shiftedUp i count a) i (getD (shiftedUp i count a) m z)
+      ≡ shiftedUp m count a
   moved-turn i m count a e h g =
       let l : length (take i a) ≡ i = length-take-le i a (omega arith) in
       ap (λ (r : List A). set r i (getD r m z)) (moved-is i count a (omega arith))
-      ∙ ap (λ (y : A). set (take i a ++ getD a i z ∷ rest i) i y) (List·getD-append (take i a) (getD a i z ∷ rest i) z m (omega arith) ∙ getD-take i a m z (omega arith))
+      ∙ ap (λ (y : A). set (take i a ++ getD a i z ∷ rest i) i y)
+      (List·getD-append (take i a) (getD a i z ∷ rest i) z m (omega arith) ∙ getD-take i a m z (omega arith))
       ∙ set-at (take i a) (getD a i z) (rest i) (getD a m z) i l
       ∙ ap (λ (n : ℕ). take n a ++ getD a m z ∷ rest n) e
       ∙ ap (λ (r : List A). r ++ getD a m z ∷ rest (suc m)) (take-suc a m z (omega arith))
       ∙ append-assoc (take m a) (getD a m z ∷ []) (getD a m z ∷ rest (suc m))
       ∙ ap (λ (y : A). take m a ++ getD a m z ∷ y ∷ rest (suc m)) (sym (getD-take count a m z (omega arith)))
-      ∙ ap (λ (r : List A). take m a ++ getD a m z ∷ (r ++ drop (count + 1) a)) (sym (drop-cons (take count a) m z (omega (arith, length-take-le count a (omega arith)))))
+      ∙ ap (λ (r : List A). take m a ++ getD a m z ∷ (r ++ drop (count + 1) a))
+      (sym (drop-cons (take count a) m z (omega (arith, length-take-le count a (omega arith)))))
       ∙ sym (moved-is m count a (omega arith))
     where
       rest : ℕ → List A
       rest n = drop n (take count a) ++ drop (count + 1) a
 
   -- a list in n places, with an entry stored in the room made
-  pub roomed : (n at count : ℕ) (xs : List A) (x : A) → count ≡ length xs → at ≤ count → count < n → set (shiftedUp at count (padded z n xs)) at x ≡ padded z n (take at xs ++ x ∷ drop at xs)
+  pub roomed : (n at count : ℕ) (xs : List A) (x : A) → count ≡ length xs → at ≤ count → count < n → set (shiftedUp at count (padded z n xs)) at x
+      ≡ padded z n (take at xs ++ x ∷ drop at xs)
   unfolding padded
   roomed n at count xs x e h g =
       let a : List A = xs ++ replicate (n - length xs) z in
@@ -56,7 +60,9 @@ module _ {A : Type 0} (z : A) where
       ap (λ (r : List A). set r at x) (moved-is at count a (omega (arith, length-padded z n xs (omega arith))))
       ∙ set-at (take at a) (getD a at z) (drop at (take count a) ++ drop (count + 1) a) x at t
       ∙ ap (λ (r : List A). r ++ x ∷ (drop at (take count a) ++ drop (count + 1) a)) (take-append-le at xs (replicate (n - length xs) z) (omega arith))
-      ∙ ap₂ (λ (r q : List A). take at xs ++ x ∷ (drop at r ++ q)) (ap (λ (k : ℕ). take k a) e ∙ take-padded z n xs) (ap (λ (k : ℕ). drop (k + 1) a) e ∙ drop-append-add xs (replicate (n - length xs) z) 1 ∙ blanks (n - length xs) (n - length (take at xs ++ x ∷ drop at xs)) (omega (arith, length-append (take at xs) (x ∷ drop at xs), length-drop at xs)))
+      ∙ ap₂ (λ (r q : List A). take at xs ++ x ∷ (drop at r ++ q)) (ap (λ (k : ℕ). take k a) e ∙ take-padded z n xs)
+      (ap (λ (k : ℕ). drop (k + 1) a) e ∙ drop-append-add xs (replicate (n - length xs) z) 1
+      ∙ blanks (n - length xs) (n - length (take at xs ++ x ∷ drop at xs)) (omega (arith, length-append (take at xs) (x ∷ drop at xs), length-drop at xs)))
       ∙ sym (append-assoc (take at xs) (x ∷ drop at xs) (replicate (n - length (take at xs ++ x ∷ drop at xs)) z))
     where
       blanks : (m k : ℕ) → m ≡ suc k → drop 1 (replicate m z) ≡ replicate k z
@@ -67,6 +73,7 @@ module _ {A : Type 0} (z : A) where
   unfolding padded
   replaced n at xs x h =
       let s : length (take at xs) ≡ at = length-take-le at xs (omega arith) in
-      let e : length xs ≡ length (take at xs ++ x ∷ drop (suc at) xs) = omega (arith, length-append (take at xs) (x ∷ drop (suc at) xs), length-drop (suc at) xs) in
+      let e : length xs ≡ length (take at xs ++ x ∷ drop (suc at) xs) = omega
+      (arith, length-append (take at xs) (x ∷ drop (suc at) xs), length-drop (suc at) xs) in
       set-append-left xs (replicate (n - length xs) z) at x h
       ∙ ap₂ (λ (r : List A) (m : ℕ). r ++ replicate (n - m) z) (set-split xs at x h) e

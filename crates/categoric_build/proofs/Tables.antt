@@ -22,7 +22,8 @@ use Rattle.categoric_lists.proofs.Numbers.{below, lt-yes, lt-no, le-is, not-neg
 
 -- ---- the foremost key
 module _ (before : ℤ → ℤ → Bool) (keys : List ℤ) (count i : ℕ) (h : i < count) where
-  next : (t : Bool) → before (getD keys i (pos 0)) (foremost before i (take count keys)) ≡ t → foremost before (i + 1) (take count keys) ≡ cond t (getD keys i (pos 0)) (foremost before i (take count keys))
+  next : (t : Bool) → before (getD keys i (pos 0)) (foremost before i (take count keys)) ≡ t → foremost before (i + 1) (take count keys)
+      ≡ cond t (getD keys i (pos 0)) (foremost before i (take count keys))
   unfolding foremost
   next t e =
       ap (λ (m : ℕ). foremost before m (take count keys)) (add-one i)
@@ -33,7 +34,8 @@ module _ (before : ℤ → ℤ → Bool) (keys : List ℤ) (count i : ℕ) (h : 
   pub foremost-new : before (getD keys i (pos 0)) (foremost before i (take count keys)) ≡ true → getD keys i (pos 0) ≡ foremost before (i + 1) (take count keys)
   foremost-new e = sym (next true e)
 
-  pub foremost-kept : before (getD keys i (pos 0)) (foremost before i (take count keys)) ≡ false → foremost before i (take count keys) ≡ foremost before (i + 1) (take count keys)
+  pub foremost-kept : before (getD keys i (pos 0)) (foremost before i (take count keys)) ≡ false → foremost before i (take count keys)
+      ≡ foremost before (i + 1) (take count keys)
   foremost-kept e = sym (next false e)
 
 -- not above
@@ -46,19 +48,26 @@ module _ (before : ℤ → ℤ → Bool) (R : ℤ → ℤ → Type 0) (same : (a
   foremost-all : (n : ℕ) (keys : List ℤ) (k : ℕ) → k < n → R (foremost before n keys) (getD keys k (pos 0))
   unfolding foremost
   foremost-all zero keys k h = absurd (omega arith)
-  foremost-all (suc n) keys k h = let x = getD keys n (pos 0) in let f = foremost before n keys in go x f (before x f) refl (yes x f) (no x f) (eq-or-lt-of-le (le-of-suc-le-suc h)) (foremost-all n keys k)
+  foremost-all (suc n) keys k h =
+      let x = getD keys n (pos 0) in let f = foremost before n keys in go x f (before x f) refl (yes x f) (no x f) (eq-or-lt-of-le (le-of-suc-le-suc h))
+      (foremost-all n keys k)
     where
-      go : (x f : ℤ) (t : Bool) → x ≡ getD keys n (pos 0) → (t ≡ true → R x f) → (t ≡ false → R f x) → (k ≡ n) ⊎ (k < n) → (k < n → R f (getD keys k (pos 0))) → R (cond t x f) (getD keys k (pos 0))
+      go : (x f : ℤ) (t : Bool) → x ≡ getD keys n (pos 0) → (t ≡ true → R x f) → (t ≡ false → R f x) → (k ≡ n) ⊎ (k < n) → (k < n → R f (getD keys k (pos 0)))
+          → R (cond t x f) (getD keys k (pos 0))
       go x f true s y m (inl e) rest = subst (λ (v : ℤ). R x v) (s ∙ sym (ap (λ (j : ℕ). getD keys j (pos 0)) e)) (same x)
       go x f true s y m (inr l) rest = join x f (getD keys k (pos 0)) (y refl) (rest l)
       go x f false s y m (inl e) rest = subst (λ (v : ℤ). R f v) (s ∙ sym (ap (λ (j : ℕ). getD keys j (pos 0)) e)) (m refl)
       go x f false s y m (inr l) rest = rest l
 
 smallest-all : (keys : List ℤ) (k : ℕ) → k < length keys → smallest keys ⊑ getD keys k (pos 0)
-smallest-all keys = foremost-all ltZ (λ a b. a ⊑ b) (λ a. omega arith) (λ a b c h g. omega arith) (λ a b e. omega (arith, lt-yes a b e)) (λ a b e. lt-no a b e) (length keys) keys
+smallest-all keys =
+    foremost-all ltZ (λ a b. a ⊑ b) (λ a. omega arith) (λ a b c h g. omega arith) (λ a b e. omega (arith, lt-yes a b e)) (λ a b e. lt-no a b e) (length keys)
+    keys
 
 largest-all : (keys : List ℤ) (k : ℕ) → k < length keys → getD keys k (pos 0) ⊑ largest keys
-largest-all keys = foremost-all (λ x y. ltZ y x) (λ a b. b ⊑ a) (λ a. omega arith) (λ a b c h g. omega arith) (λ a b e. omega (arith, lt-yes b a e)) (λ a b e. lt-no b a e) (length keys) keys
+largest-all keys =
+    foremost-all (λ x y. ltZ y x) (λ a b. b ⊑ a) (λ a. omega arith) (λ a b c h g. omega arith) (λ a b e. omega (arith, lt-yes b a e)) (λ a b e. lt-no b a e)
+    (length keys) keys
 
 -- ---- which keys have a table
 module _ (keys : List ℤ) where
@@ -116,11 +125,18 @@ no-less (negsuc n) h = absurd (omega arith)
 module _ (keys : List ℤ) (e : hasTable keys ≡ true) where
   smallest-from-0 : below (smallest keys) ≡ 0
   unfolding hasTable
-  smallest-from-0 = not-negative (smallest keys) (not-true (ltZ (smallest keys) (pos 0)) (sym (le-is (pos 0) (smallest keys)) ∙ both (ltb 0 (length keys)) (leZ (pos 0) (smallest keys)) (both (ltb 0 (length keys) && leZ (pos 0) (smallest keys)) (leZ (largest keys) (pos 512)) e .0) .1))
+  smallest-from-0 =
+      not-negative (smallest keys)
+      (not-true (ltZ (smallest keys) (pos 0))
+      (sym (le-is (pos 0) (smallest keys)) ∙ both (ltb 0 (length keys)) (leZ (pos 0) (smallest keys))
+      (both (ltb 0 (length keys) && leZ (pos 0) (smallest keys)) (leZ (largest keys) (pos 512)) e .0) .1))
 
   pub largest-to-512 : whole (largest keys) ≤ 512
   unfolding hasTable
-  largest-to-512 = up-to (largest keys) 512 (not-true (ltZ (pos 512) (largest keys)) (sym (le-is (largest keys) (pos 512)) ∙ both (ltb 0 (length keys) && leZ (pos 0) (smallest keys)) (leZ (largest keys) (pos 512)) e .1))
+  largest-to-512 =
+      up-to (largest keys) 512
+      (not-true (ltZ (pos 512) (largest keys))
+      (sym (le-is (largest keys) (pos 512)) ∙ both (ltb 0 (length keys) && leZ (pos 0) (smallest keys)) (leZ (largest keys) (pos 512)) e .1))
 
   pub size-≤ : tableSize keys ≤ 513
   size-≤ = omega (arith, is-tabled keys e, largest-to-512)
@@ -135,7 +151,9 @@ module _ (keys : List ℤ) (e : hasTable keys ≡ true) where
   pub largest-from-0 : below (largest keys) ≡ 0
   unfolding hasTable
   largest-from-0 =
-      let some = ltb-true 0 (length keys) (both (ltb 0 (length keys)) (leZ (pos 0) (smallest keys)) (both (ltb 0 (length keys) && leZ (pos 0) (smallest keys)) (leZ (largest keys) (pos 512)) e .0) .0) in
+      let some = ltb-true 0 (length keys)
+      (both (ltb 0 (length keys)) (leZ (pos 0) (smallest keys))
+      (both (ltb 0 (length keys) && leZ (pos 0) (smallest keys)) (leZ (largest keys) (pos 512)) e .0) .0) in
       no-less (largest keys) (omega (arith, largest-all keys 0 some, key-from-0 0 some))
 
 -- ---- the words
@@ -146,12 +164,14 @@ module _ (keys : List ℤ) (colors : List ℕ) where
   length-written (suc n) words = length-set (written n keys colors words) (whole (getD keys n (pos 0))) (getD colors n 0) ∙ length-written n words
 
   -- words behind those that the keys reach stay
-  written-front : (n : ℕ) (words rest : List ℕ) → ((k : ℕ) → k < n → whole (getD keys k (pos 0)) < length words) → written n keys colors (words ++ rest) ≡ written n keys colors words ++ rest
+  written-front : (n : ℕ) (words rest : List ℕ) → ((k : ℕ) → k < n → whole (getD keys k (pos 0)) < length words) → written n keys colors (words ++ rest)
+      ≡ written n keys colors words ++ rest
   unfolding written
   written-front zero words rest h = refl
   written-front (suc n) words rest h =
       ap (λ (l : List ℕ). set l (whole (getD keys n (pos 0))) (getD colors n 0)) (written-front n words rest (λ k q. h k (omega arith)))
-      ∙ set-append-left (written n keys colors words) rest (whole (getD keys n (pos 0))) (getD colors n 0) (omega (arith, length-written n words, h n (omega arith)))
+      ∙ set-append-left (written n keys colors words) rest (whole (getD keys n (pos 0))) (getD colors n 0)
+      (omega (arith, length-written n words, h n (omega arith)))
 
   pub no-table : hasTable keys ≡ false → replicate 513 0 ≡ padded 0 513 (table keys colors)
   unfolding table
@@ -165,7 +185,8 @@ module _ (keys : List ℤ) (colors : List ℕ) where
       let l : length w ≡ tableSize keys = length-written (length keys) (replicate (tableSize keys) 0) ∙ length-replicate (tableSize keys) 0 in
       ap (λ (n : ℕ). written (length keys) keys colors (replicate n 0)) (sym s)
       ∙ ap (written (length keys) keys colors) (sym (replicate-append-replicate (tableSize keys) (513 - tableSize keys) 0))
-      ∙ written-front (length keys) (replicate (tableSize keys) 0) (replicate (513 - tableSize keys) 0) (λ k q. omega (arith, key-in-table keys e k q, length-replicate {A = ℕ} (tableSize keys) 0))
+      ∙ written-front (length keys) (replicate (tableSize keys) 0) (replicate (513 - tableSize keys) 0)
+      (λ k q. omega (arith, key-in-table keys e k q, length-replicate {A = ℕ} (tableSize keys) 0))
       ∙ ap (λ (n : ℕ). w ++ replicate (513 - n) 0) (sym l)
       ∙ sym (ap (λ (t : Bool). (cond t w []) ++ replicate (513 - length (cond t w [])) 0) e)
 
@@ -183,7 +204,8 @@ module _ (keys : List ℤ) (count : ℕ) (long : length keys ≡ 256) (few : cou
   pub index-in-table : whole (getD keys i (pos 0)) < 513
   index-in-table = omega (arith, ap whole is, key-in-table (take count keys) t i counted, size-≤ (take count keys) t)
 
-  pub word-written : (colors words : List ℕ) → set (written i (take count keys) (take count colors) words) (whole (getD keys i (pos 0))) (getD colors i 0) ≡ written (i + 1) (take count keys) (take count colors) words
+  pub word-written : (colors words : List ℕ) → set (written i (take count keys) (take count colors) words) (whole (getD keys i (pos 0))) (getD colors i 0)
+      ≡ written (i + 1) (take count keys) (take count colors) words
   unfolding written
   word-written colors words =
       ap₂ (λ (n : ℤ) (x : ℕ). set (written i (take count keys) (take count colors) words) (whole n) x) (sym is) (sym (getD-take count colors i 0 h))

@@ -71,7 +71,8 @@ pub never-again : (keys : List ℤ) (i k : ℕ) → 0 < i → ascends keys i ≡
 never-again keys i zero p e = let g : i + zero ≡ i = omega arith in ap (ascends keys) g ∙ e
 never-again keys i (suc k) p e =
     let g : i + suc k ≡ i + k + 1 = omega arith in
-    ap (ascends keys) g ∙ one-more keys (i + k) (omega arith) ∙ ap (λ (b : Bool). b && ltZ (getD keys (i + k - 1) (pos 0)) (getD keys (i + k) (pos 0))) (never-again keys i k p e)
+    ap (ascends keys) g ∙ one-more keys (i + k) (omega arith) ∙ ap (λ (b : Bool). b && ltZ (getD keys (i + k - 1) (pos 0)) (getD keys (i + k) (pos 0)))
+    (never-again keys i k p e)
 
 -- ---- the next pair, as the code compares it
 not-below : (b : Bool) → not b ≡ true → b ≡ false
@@ -90,7 +91,8 @@ module _ (keys : List ℤ) (i : ℕ) (p : 0 < i) {x y : ℤ} (e : x ≡ getD key
   pub stops : (count : ℕ) → i < count → not (ltZ x y) ≡ true → ascends keys count ≡ false
   stops count q h =
       let g : i + 1 + (count - (i + 1)) ≡ count = omega arith in
-      let fell : ascends keys (i + 1) ≡ false = one-more keys i p ∙ ap (λ (b : Bool). ascends keys i && b) (sym (ap₂ ltZ e f) ∙ not-below (ltZ x y) h) ∙ and-no (ascends keys i) in
+      let fell : ascends keys (i + 1) ≡ false = one-more keys i p ∙ ap (λ (b : Bool). ascends keys i && b) (sym (ap₂ ltZ e f) ∙ not-below (ltZ x y) h)
+      ∙ and-no (ascends keys i) in
       sym (ap (ascends keys) g) ∙ never-again keys (i + 1) (count - (i + 1)) (omega arith) fell
 
   pub goes-on : ascends keys i ≡ true → not (ltZ x y) ≡ false → ascends keys (i + 1) ≡ true

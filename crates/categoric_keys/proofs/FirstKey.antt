@@ -42,7 +42,8 @@ by-bits w a b f g = go (eqb (ofZ w a) (ofZ w b)) (λ t. t) (λ t. t)
   where
     go : (t : Bool) → (T t → T (eqb (ofZ w a) (ofZ w b))) → (T (not t) → T (not (eqb (ofZ w a) (ofZ w b)))) → t ≡ eqZ a b
     go true holds fails = sym (same-key a b (same-bits w a b f g (eqb→eq (ofZ w a) (ofZ w b) (holds tt))))
-    go false holds fails = sym (other-key a b (λ e. T-not (eqb (ofZ w a) (ofZ w b)) (fails tt) (subst (λ (x : ℤ). T (eqb (ofZ w a) (ofZ w x))) e (eqb-refl (ofZ w a)))))
+    go false holds fails =
+        sym (other-key a b (λ e. T-not (eqb (ofZ w a) (ofZ w b)) (fails tt) (subst (λ (x : ℤ). T (eqb (ofZ w a) (ofZ w x))) e (eqb-refl (ofZ w a)))))
 
 -- ---- of n entries from entry m on
 module _ (keys : List ℤ) (z : ℤ) where
@@ -51,7 +52,8 @@ module _ (keys : List ℤ) (z : ℤ) where
   found-from m zero k l h e before = absurd (omega arith)
   found-from m (suc n) k l h e before =
       ⊎-elim
-      (λ (q : m ≡ k). let here : getD keys m (pos 0) ≡ z = ap (λ (i : ℕ). getD keys i (pos 0)) q ∙ e in rw (same-key (getD keys m (pos 0)) z here) (ap category q))
+      (λ (q : m ≡ k). let here : getD keys m (pos 0) ≡ z = ap (λ (i : ℕ). getD keys i (pos 0)) q ∙ e in rw (same-key (getD keys m (pos 0)) z here)
+      (ap category q))
       (λ (q : m < k). rw (other-key (getD keys m (pos 0)) z (before m q)) (found-from (suc m) n k q (omega arith) e before))
       (eq-or-lt-of-le l)
 

@@ -1,4 +1,5 @@
--- How a categoric legend looks up a sample without a table, and as stored, with one or without, and the colour that this gives (docs/RULES.md, "Categoric" and "Painting"). Definitions only.
+-- How a categoric legend looks up a sample without a table, and as stored, with one or without, and the colour that this gives (docs/RULES.md, "Categoric" and
+-- "Painting"). Definitions only.
 use Prim.Native.Nat.{ℕ, zero, suc}
 use mathlib.Core.Bool.{Bool, false, cond}
 use mathlib.Core.List.{List, []}

@@ -41,7 +41,7 @@ fn scan(keys: &[i64; 256], colors: &[u32; 256], count: usize, nodata: u32, key: 
     nodata
 }
 
-// Whether the counted keys ascend, as a builder leaves them: asked once a painting. Left at the first that does not: comparisons of
+// Whether the counted keys ascend, as a builder leaves them: checked once per painting. Left at the first that does not: comparisons of
 // 64 bits are slower vectorised.
 pub fn ascending(keys: &[i64; 256], count: usize) -> bool
     requires { ⌜ count ≤ 256 ⌝ }

@@ -82,7 +82,8 @@ module _ (a b : ℤ) where
 sub-sum : (a b : ℕ) → whole (subℕ a b) + b ≡ a + below (subℕ a b)
 sub-sum a b = go (ltb a b) (ltb-true a b) (ltb-false a b)
   where
-    go : (t : Bool) → (t ≡ true → a < b) → (t ≡ false → b ≤ a) → whole (cond t (negsuc (b - suc a)) (pos (a - b))) + b ≡ a + below (cond t (negsuc (b - suc a)) (pos (a - b)))
+    go : (t : Bool) → (t ≡ true → a < b) → (t ≡ false → b ≤ a) → whole (cond t (negsuc (b - suc a)) (pos (a - b))) + b
+        ≡ a + below (cond t (negsuc (b - suc a)) (pos (a - b)))
     go true y n = let h = y refl in omega arith
     go false y n = let h = n refl in omega arith
 

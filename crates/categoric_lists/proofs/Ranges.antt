@@ -52,12 +52,15 @@ module _ (start end : ℤ) where
 
   wide-not : whole width < 9223372036854775807 + below width → below width ≤ 9223372036854775808 + whole width → tooWide start end ≡ false
   unfolding tooWide
-  wide-not h g = ap not (ap₂ _&&_ (in-yes width (omega arith) g) (in-yes (rangeCount start end) (omega (arith, sum width (pos 1))) (omega (arith, sum width (pos 1)))))
+  wide-not h g =
+      ap not (ap₂ _&&_ (in-yes width (omega arith) g) (in-yes (rangeCount start end) (omega (arith, sum width (pos 1))) (omega (arith, sum width (pos 1)))))
 
   module _ (s : mag start < 2 ^ 63) (e : mag end < 2 ^ 63) where
     -- a start of at most 0
     pub low-fits : leZ start (pos 0) ≡ true → mag (pos 9223372036854775806 +ℤ start) < 2 ^ 63
-    low-fits l = fits (pos 9223372036854775806 +ℤ start) (omega (arith, sum (pos 9223372036854775806) start, le-yes start (pos 0) l)) (omega (arith, sum (pos 9223372036854775806) start, from-fits start s))
+    low-fits l =
+        fits (pos 9223372036854775806 +ℤ start) (omega (arith, sum (pos 9223372036854775806) start, le-yes start (pos 0) l))
+        (omega (arith, sum (pos 9223372036854775806) start, from-fits start s))
 
     pub low-wide : leZ start (pos 0) ≡ true → ltZ (pos 9223372036854775806 +ℤ start) end ≡ tooWide start end
     low-wide l = go (ltZ (pos 9223372036854775806 +ℤ start) end) (lt-yes (pos 9223372036854775806 +ℤ start) end) (lt-no (pos 9223372036854775806 +ℤ start) end)
@@ -65,19 +68,27 @@ module _ (start end : ℤ) where
         go : (t : Bool) → (t ≡ true → whole (pos 9223372036854775806 +ℤ start) + below end < whole end + below (pos 9223372036854775806 +ℤ start))
             → (t ≡ false → whole end + below (pos 9223372036854775806 +ℤ start) ≤ whole (pos 9223372036854775806 +ℤ start) + below end) → t ≡ tooWide start end
         go true y n = sym (wide-above (omega (arith, y refl, sum (pos 9223372036854775806) start, difference end start)))
-        go false y n = sym (wide-not (omega (arith, n refl, sum (pos 9223372036854775806) start, difference end start)) (omega (arith, le-yes start (pos 0) l, from-fits end e, difference end start)))
+        go false y n =
+            sym (wide-not (omega (arith, n refl, sum (pos 9223372036854775806) start, difference end start))
+            (omega (arith, le-yes start (pos 0) l, from-fits end e, difference end start)))
 
     -- a start above 0
     pub high-fits : leZ start (pos 0) ≡ false → mag (negsuc 9223372036854775807 +ℤ start) < 2 ^ 63
-    high-fits l = fits (negsuc 9223372036854775807 +ℤ start) (omega (arith, sum (negsuc 9223372036854775807) start, from-fits start s)) (omega (arith, sum (negsuc 9223372036854775807) start, le-no start (pos 0) l))
+    high-fits l =
+        fits (negsuc 9223372036854775807 +ℤ start) (omega (arith, sum (negsuc 9223372036854775807) start, from-fits start s))
+        (omega (arith, sum (negsuc 9223372036854775807) start, le-no start (pos 0) l))
 
     pub high-wide : leZ start (pos 0) ≡ false → ltZ end (negsuc 9223372036854775807 +ℤ start) ≡ tooWide start end
-    high-wide l = go (ltZ end (negsuc 9223372036854775807 +ℤ start)) (lt-yes end (negsuc 9223372036854775807 +ℤ start)) (lt-no end (negsuc 9223372036854775807 +ℤ start))
+    high-wide l =
+        go (ltZ end (negsuc 9223372036854775807 +ℤ start)) (lt-yes end (negsuc 9223372036854775807 +ℤ start)) (lt-no end (negsuc 9223372036854775807 +ℤ start))
       where
         go : (t : Bool) → (t ≡ true → whole end + below (negsuc 9223372036854775807 +ℤ start) < whole (negsuc 9223372036854775807 +ℤ start) + below end)
-            → (t ≡ false → whole (negsuc 9223372036854775807 +ℤ start) + below end ≤ whole end + below (negsuc 9223372036854775807 +ℤ start)) → t ≡ tooWide start end
+            → (t ≡ false → whole (negsuc 9223372036854775807 +ℤ start) + below end ≤ whole end + below (negsuc 9223372036854775807 +ℤ start)) → t
+            ≡ tooWide start end
         go true y n = sym (wide-below (omega (arith, y refl, sum (negsuc 9223372036854775807) start, difference end start)))
-        go false y n = sym (wide-not (omega (arith, le-no start (pos 0) l, from-fits end e, difference end start)) (omega (arith, n refl, sum (negsuc 9223372036854775807) start, difference end start)))
+        go false y n =
+            sym (wide-not (omega (arith, le-no start (pos 0) l, from-fits end e, difference end start))
+            (omega (arith, n refl, sum (negsuc 9223372036854775807) start, difference end start)))
 
   -- ---- a range that is not too wide
   module _ (n : tooWide start end ≡ false) where

@@ -14,11 +14,13 @@ use Rattle.refusal.specs.Outcome.{refuseIf}
 use Rattle.categoric_lists.specs.Keys.{outside, outsideFrom, keysRefusal}
 
 -- ---- the first key outside
-module _ (keys : List ℤ) (count i : ℕ) (long : length keys ≡ 256) (few : count ≤ 256) (so-far : keysRefusal (take count keys) ≡ outsideFrom i (drop i (take count keys))) where
+module _ (keys : List ℤ) (count i : ℕ) (long : length keys ≡ 256) (few : count ≤ 256)
+    (so-far : keysRefusal (take count keys) ≡ outsideFrom i (drop i (take count keys))) where
   long-enough : length (take count keys) ≡ count
   long-enough = length-take-le count keys (omega arith)
 
-  here : i < count → keysRefusal (take count keys) ≡ refuseIf (outside (getD keys i (pos 0))) (KeyOutOfRange i) (outsideFrom (suc i) (drop (suc i) (take count keys)))
+  here : i < count → keysRefusal (take count keys) ≡ refuseIf (outside (getD keys i (pos 0))) (KeyOutOfRange i)
+      (outsideFrom (suc i) (drop (suc i) (take count keys)))
   unfolding outsideFrom
   here h =
       so-far ∙ ap (outsideFrom i) (drop-cons (take count keys) i (pos 0) (omega (arith, long-enough)))

@@ -14,4 +14,6 @@ use Rattle.categoric_paint.specs.forms.KeySamples.{keySample, searchSamp
 
 module _ {keys narrow : List ℤ} {count : ℕ} (colors : List ℕ) (p : CategoricPaint) (src : List Float) (n : Narrow keys count narrow) where
   pub searched-is : plainPainted (searchSample narrow colors p) src ≡ plainPainted (keySample keys colors count p) src
-  searched-is = map-congr-left {f = searchSample narrow colors p} {g = keySample keys colors count p} {l = src} (λ v m. ap (cond (excluded (p .exclusions) v) (p .nodata)) (sample-color keys count narrow n colors (p .nodata) v))
+  searched-is =
+      map-congr-left {f = searchSample narrow colors p} {g = keySample keys colors count p} {l = src}
+      (λ v m. ap (cond (excluded (p .exclusions) v) (p .nodata)) (sample-color keys count narrow n colors (p .nodata) v))

@@ -34,7 +34,8 @@ fn block_by_search(
     out: &mut [u32],
 )
     requires { ⌜ (base + 16 ≤ length (now src)) × (base + 16 ≤ length (now out)) ⌝ }
-    ensures { λ _. ⌜ now (out .exit) ≡ chunkOver (map (searchSample (now (narrow .entry)) (now (colors .entry)) p)) (now (src .entry)) (now (out .entry)) base 16 ⌝ }
+    ensures { λ _. ⌜ now (out .exit) ≡ chunkOver (map (searchSample (now (narrow .entry)) (now (colors .entry)) p)) (now (src .entry)) (now (out .entry)) base
+        16 ⌝ }
 {
     let v = painting::load(16, src, base);
     painting::store(16, words_by_search(narrow, colors, p, v), base, out);
@@ -49,7 +50,8 @@ fn rest_by_search(
     out: &mut [u32],
 )
     requires { ⌜ (base ≤ length (now src)) × (length (now src) ≤ base + 16) × (length (now out) ≡ length (now src)) ⌝ }
-    ensures { λ _. ⌜ now (out .exit) ≡ take base (now (out .entry)) ++ map (searchSample (now (narrow .entry)) (now (colors .entry)) p) (drop base (now (src .entry))) ⌝ }
+    ensures { λ _. ⌜ now (out .exit) ≡ take base (now (out .entry)) ++ map (searchSample (now (narrow .entry)) (now (colors .entry)) p)
+        (drop base (now (src .entry))) ⌝ }
 {
     let m = src.len() - base;
     if m == 0 {

@@ -42,7 +42,8 @@ near-at keys (suc n) u h j q =
     (λ (e : 0 ≡ j). subst (λ (k : ℕ). T (inKeyRange (getD keys k (pos 0)))) e first)
     (λ (l : 0 < j). ⊎-elim
     (λ (e : j ≡ n). subst (λ (k : ℕ). T (inKeyRange (getD keys k (pos 0)))) (sym e) last)
-    (λ (m : j < n). near-between (getD keys 0 (pos 0)) (getD keys j (pos 0)) (getD keys n (pos 0)) first last (counted-below keys (suc n) u 0 j l q) (counted-below keys (suc n) u j n m (omega arith)))
+    (λ (m : j < n). near-between (getD keys 0 (pos 0)) (getD keys j (pos 0)) (getD keys n (pos 0)) first last (counted-below keys (suc n) u 0 j l q)
+    (counted-below keys (suc n) u j n m (omega arith)))
     (eq-or-lt-of-le (omega arith)))
     (eq-or-lt-of-le (omega arith))
 
@@ -58,7 +59,8 @@ module _ (keys : List ℤ) (count : ℕ) (h : searchable keys count ≡ true) wh
   they-are-near = near-at keys count they-ascend (and-r (ascends keys count) (endsInKeyRange keys count) both)
 
 -- the ends of some keys
-pub ends-of : (keys : List ℤ) (count : ℕ) → (count ≡ 0 → ⊥) → (inKeyRange (getD keys 0 (pos 0)) && inKeyRange (getD keys (count - 1) (pos 0))) ≡ endsInKeyRange keys count
+pub ends-of : (keys : List ℤ) (count : ℕ) → (count ≡ 0 → ⊥) → (inKeyRange (getD keys 0 (pos 0)) && inKeyRange (getD keys (count - 1) (pos 0)))
+    ≡ endsInKeyRange keys count
 unfolding endsInKeyRange
 ends-of keys zero n = absurd (n refl)
 ends-of keys (suc m) n = let last : suc m - 1 ≡ m = omega arith in ap (λ (j : ℕ). inKeyRange (getD keys 0 (pos 0)) && inKeyRange (getD keys j (pos 0))) last

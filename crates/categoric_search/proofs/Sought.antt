@@ -41,7 +41,8 @@ module _ (keys : List ℤ) (count : ℕ) (narrow : List ℤ) (n : Narrow keys co
   top : (i : ℕ) → i < 256 → T (leZ (at i) (pos 2147483647))
   top i h =
       ⊎-elim
-      (λ (l : i < count). subst (λ (x : ℤ). T (leZ x (pos 2147483647))) (sym (n .below i l)) (lt→le (key i) (pos 2147483647) (near-below (key i) (they-are-near keys count (n .sought) i l))))
+      (λ (l : i < count). subst (λ (x : ℤ). T (leZ x (pos 2147483647))) (sym (n .below i l))
+      (lt→le (key i) (pos 2147483647) (near-below (key i) (they-are-near keys count (n .sought) i l))))
       (λ (l : count ≤ i). subst (λ (x : ℤ). T (leZ x (pos 2147483647))) (sym (n .past i l h)) tt)
       (lt-or-le i count)
 
@@ -55,48 +56,52 @@ module _ (keys : List ℤ) (count : ℕ) (narrow : List ℤ) (n : Narrow keys co
       (λ (q : count ≤ j). subst (λ (x : ℤ). T (leZ (at i) x)) (sym (n .past j q h)) (top i (omega arith)))
       (lt-or-le j count)
 
-  -- ---- one place is left
-  module _ (z : ℤ) (low : T (ltZ z (pos 2147483647))) (place : ℕ) (p : Narrowed narrow z 1 place) where
+  -- ---- one index is left
+  module _ (z : ℤ) (low : T (ltZ z (pos 2147483647))) (index : ℕ) (p : Narrowed narrow z 1 index) where
     -- a number that is not above z is a key
-    counted-at : T (leZ (at place) z) → place < count
+    counted-at : T (leZ (at index) z) → index < count
     counted-at h =
         ⊎-elim
-        (λ (l : place < count). l)
-        (λ (l : count ≤ place).
-        let m = subst (λ (x : ℤ). T (leZ x z)) (n .past place l (omega (arith, p .within))) h in
+        (λ (l : index < count). l)
+        (λ (l : count ≤ index).
+        let m = subst (λ (x : ℤ). T (leZ x z)) (n .past index l (omega (arith, p .within))) h in
         absurd (lt-apart z z (lt-le z (pos 2147483647) z low m) refl))
-        (lt-or-le place count)
+        (lt-or-le index count)
 
-    hit : at place ≡ z → firstKey keys z 0 count ≡ category place
+    hit : at index ≡ z → firstKey keys z 0 count ≡ category index
     hit e =
-        let l = counted-at (subst (λ (x : ℤ). T (leZ (at place) x)) e (≤ℤ-refl (at place) .le)) in
-        let is = sym (n .below place l) ∙ e in
-        found-at keys z count place l is (λ j q d. lt-apart (key j) (key place) (counted-below keys count up j place q l) (d ∙ sym is))
+        let l = counted-at (subst (λ (x : ℤ). T (leZ (at index) x)) e (≤ℤ-refl (at index) .le)) in
+        let is = sym (n .below index l) ∙ e in
+        found-at keys z count index l is (λ j q d. lt-apart (key j) (key index) (counted-below keys count up j index q l) (d ∙ sym is))
 
-    before-place : (j : ℕ) → j < place → key j ≡ z → ⊥
-    before-place j q e =
+    before-index : (j : ℕ) → j < index → key j ≡ z → ⊥
+    before-index j q e =
         let s = p .start (omega arith) in
         let l = counted-at s in
-        let m = subst (λ (x : ℤ). T (leZ x z)) (n .below place l) s in
-        lt-apart (key j) z (lt-le (key j) (key place) z (counted-below keys count up j place q l) m) e
+        let m = subst (λ (x : ℤ). T (leZ x z)) (n .below index l) s in
+        lt-apart (key j) z (lt-le (key j) (key index) z (counted-below keys count up j index q l) m) e
 
-    miss : (at place ≡ z → ⊥) → firstKey keys z 0 count ≡ unknown
+    miss : (at index ≡ z → ⊥) → firstKey keys z 0 count ≡ unknown
     miss other =
         found-nowhere keys z count
         (λ j q e. ⊎-elim
-        (λ (l : place < j). lt-apart z (at j) (p .above j (omega arith) (omega (arith, n .counted))) (sym (n .below j q ∙ e)))
-        (λ (l : j ≤ place). ⊎-elim
-        (λ (d : j ≡ place). other (ap at (sym d) ∙ n .below j q ∙ e))
-        (λ (l : j < place). before-place j l e)
+        (λ (l : index < j). lt-apart z (at j) (p .above j (omega arith) (omega (arith, n .counted))) (sym (n .below j q ∙ e)))
+        (λ (l : j ≤ index). ⊎-elim
+        (λ (d : j ≡ index). other (ap at (sym d) ∙ n .below j q ∙ e))
+        (λ (l : j < index). before-index j l e)
         (eq-or-lt-of-le l))
-        (lt-or-le place j))
+        (lt-or-le index j))
 
-    looked-up : (colors : List ℕ) (nodata : ℕ) → cond (eqZ (at place) z) (getD colors place 0) nodata ≡ ruleColor (categoricRuleColors [] colors nodata) (firstKey keys z 0 count)
-    looked-up colors nodata = go (eqZ (at place) z) (λ t. t) (λ t. t)
+    looked-up : (colors : List ℕ) (nodata : ℕ) → cond (eqZ (at index) z) (getD colors index 0) nodata ≡ ruleColor (categoricRuleColors [] colors nodata)
+        (firstKey keys z 0 count)
+    looked-up colors nodata = go (eqZ (at index) z) (λ t. t) (λ t. t)
       where
-        go : (t : Bool) → (T t → T (eqZ (at place) z)) → (T (not t) → T (not (eqZ (at place) z))) → cond t (getD colors place 0) nodata ≡ ruleColor (categoricRuleColors [] colors nodata) (firstKey keys z 0 count)
-        go true holds fails = sym (ap (ruleColor (categoricRuleColors [] colors nodata)) (hit (eqZ→eq (at place) z (holds tt))))
-        go false holds fails = sym (ap (ruleColor (categoricRuleColors [] colors nodata)) (miss (λ e. T-not (eqZ (at place) z) (fails tt) (subst T (sym (same-key (at place) z e)) tt))))
+        go : (t : Bool) → (T t → T (eqZ (at index) z)) → (T (not t) → T (not (eqZ (at index) z))) → cond t (getD colors index 0) nodata
+            ≡ ruleColor (categoricRuleColors [] colors nodata) (firstKey keys z 0 count)
+        go true holds fails = sym (ap (ruleColor (categoricRuleColors [] colors nodata)) (hit (eqZ→eq (at index) z (holds tt))))
+        go false holds fails =
+            sym (ap (ruleColor (categoricRuleColors [] colors nodata))
+            (miss (λ e. T-not (eqZ (at index) z) (fails tt) (subst T (sym (same-key (at index) z e)) tt))))
 
   -- ---- a sample outside the range is no key
   far : (z : ℤ) → (T (inKeyRange z) → ⊥) → firstKey keys z 0 count ≡ unknown
@@ -112,10 +117,12 @@ module _ (keys : List ℤ) (count : ℕ) (narrow : List ℤ) (n : Narrow keys co
   by-rule Outside = far none none-is-not
 
   -- ---- the colour of a sample
-  at-end : (z : ℤ) → T (ltZ z (pos 2147483647)) → (colors : List ℕ) (nodata : ℕ) → colorAtEnd narrow colors nodata z ≡ ruleColor (categoricRuleColors [] colors nodata) (firstKey keys z 0 count)
+  at-end : (z : ℤ) → T (ltZ z (pos 2147483647)) → (colors : List ℕ) (nodata : ℕ) → colorAtEnd narrow colors nodata z
+      ≡ ruleColor (categoricRuleColors [] colors nodata) (firstKey keys z 0 count)
   unfolding colorAtEnd
   at-end z low colors nodata = looked-up z low _ (end-narrowed narrow z rising) colors nodata
 
   pub sample-color : (colors : List ℕ) (nodata : ℕ) (v : Float) → searchColor narrow colors nodata v ≡ keyColor keys colors count nodata v
   unfolding keyColor
-  sample-color colors nodata v = at-end (narrowKey (truncated v)) (key-below (truncated v)) colors nodata ∙ ap (ruleColor (categoricRuleColors [] colors nodata)) (by-rule (truncated v))
+  sample-color colors nodata v =
+      at-end (narrowKey (truncated v)) (key-below (truncated v)) colors nodata ∙ ap (ruleColor (categoricRuleColors [] colors nodata)) (by-rule (truncated v))

@@ -14,7 +14,7 @@ ghost use Rattle.categoric_keys.specs.Rule.{eqZ};
 ghost use Rattle.lists.specs.Lanes.{Lanes};
 ghost use Rattle.categoric_search.specs.forms.Bisection.{firstStep, bisect, searchColor, Within};
 
-// The colours of sixteen samples, by any 256 numbers: one step to the 32 places among which a key can be, and five halvings.
+// The colours of sixteen samples, by any 256 numbers: one step to the 32 indices among which a key can be, and five bisections.
 pub fn colors_for_numeric_values(
     narrow: &[i32; 256],
     colors: &[u32; 256],
@@ -24,7 +24,7 @@ pub fn colors_for_numeric_values(
     ensures { λ r. ⌜ Lanes 0 16 r (λ k. searchColor (now (narrow .entry)) (now (colors .entry)) nodata (getD value k nan)) ⌝ }
 {
     let key = narrow::narrowed_samples(value);
-    let a = leading_places(narrow, key);
+    let a = first_steps(narrow, key);
     let b = bisect(narrow, 16, key, a);
     let c = bisect(narrow, 8, key, b);
     let d = bisect(narrow, 4, key, c);
@@ -35,21 +35,21 @@ pub fn colors_for_numeric_values(
     mask_missing(key, found, words, nodata)
 }
 
-// Each lane's leading place. Every lane reads the same seven numbers, so that this step needs no load by lane.
-fn leading_places(narrow: &[i32; 256], key: [i32; 16]) -> [u32; 16]
+// Each lane's leading index. Every lane reads the same seven numbers, so that this step needs no load by lane.
+fn first_steps(narrow: &[i32; 256], key: [i32; 16]) -> [u32; 16]
     ensures { λ r. ⌜ (Lanes 0 16 r (λ k. firstStep (now (narrow .entry)) (getD key k (pos 0)))) × (Within 32 r) ⌝ }
 {
     let mut result = [0u32; 16];
     let mut i: usize = 0;
     while i < 16 {
-        result[i] = leading_place(narrow, key[i]);
+        result[i] = first_step(narrow, key[i]);
         i += 1;
     }
     result
 }
 
-// The first of the 32 places among which a key can be: how many of the numbers at every thirty-second place are not above it.
-fn leading_place(narrow: &[i32; 256], key: i32) -> u32
+// The first of the 32 indices among which a key can be: how many of the numbers at every thirty-second index are not above it.
+fn first_step(narrow: &[i32; 256], key: i32) -> u32
     ensures { λ r. ⌜ r ≡ firstStep (now (narrow .entry)) key ⌝ }
 {
     let a = reached(narrow[32], key);
@@ -70,15 +70,15 @@ fn reached(number: i32, key: i32) -> u32
 }
 
 // Each lane's half in which the key can be. The flag is a factor: as an `if` it would be a branch.
-fn bisect(narrow: &[i32; 256], step: u32, key: [i32; 16], places: [u32; 16]) -> [u32; 16]
-    requires { ⌜ (0 < step) × (Within (step * 2) places) ⌝ }
-    ensures { λ r. ⌜ (Lanes 0 16 r (λ k. bisect (now (narrow .entry)) step (getD key k (pos 0)) (getD places k 0))) × (Within step r) ⌝ }
+fn bisect(narrow: &[i32; 256], step: u32, key: [i32; 16], indices: [u32; 16]) -> [u32; 16]
+    requires { ⌜ (0 < step) × (Within (step * 2) indices) ⌝ }
+    ensures { λ r. ⌜ (Lanes 0 16 r (λ k. bisect (now (narrow .entry)) step (getD key k (pos 0)) (getD indices k 0))) × (Within step r) ⌝ }
 {
     let mut result = [0u32; 16];
     let mut i: usize = 0;
     while i < 16 {
-        let at = (places[i] + step) as usize;
-        result[i] = places[i] + step * ((narrow[at] <= key[i]) as u32);
+        let at = (indices[i] + step) as usize;
+        result[i] = indices[i] + step * ((narrow[at] <= key[i]) as u32);
         i += 1;
     }
     result
@@ -86,31 +86,31 @@ fn bisect(narrow: &[i32; 256], step: u32, key: [i32; 16], places: [u32; 16]) -> 
 
 // The samples' keys are compared in two phases: a load under a branch is not vectorised.
 
-// The keys at the places.
-fn keys_at(narrow: &[i32; 256], places: [u32; 16]) -> [i32; 16]
-    requires { ⌜ Within 1 places ⌝ }
-    ensures { λ r. ⌜ Lanes (pos 0) 16 r (λ k. getD (now (narrow .entry)) (getD places k 0) (pos 0)) ⌝ }
+// The keys at the indices.
+fn keys_at(narrow: &[i32; 256], indices: [u32; 16]) -> [i32; 16]
+    requires { ⌜ Within 1 indices ⌝ }
+    ensures { λ r. ⌜ Lanes (pos 0) 16 r (λ k. getD (now (narrow .entry)) (getD indices k 0) (pos 0)) ⌝ }
 {
     let mut result = [0i32; 16];
     let mut i: usize = 0;
     while i < 16 {
-        let place = places[i] as usize;
-        result[i] = narrow[place];
+        let index = indices[i] as usize;
+        result[i] = narrow[index];
         i += 1;
     }
     result
 }
 
-// The colours at the places.
-fn colors_at(colors: &[u32; 256], places: [u32; 16]) -> [u32; 16]
-    requires { ⌜ Within 1 places ⌝ }
-    ensures { λ r. ⌜ Lanes 0 16 r (λ k. getD (now (colors .entry)) (getD places k 0) 0) ⌝ }
+// The colours at the indices.
+fn colors_at(colors: &[u32; 256], indices: [u32; 16]) -> [u32; 16]
+    requires { ⌜ Within 1 indices ⌝ }
+    ensures { λ r. ⌜ Lanes 0 16 r (λ k. getD (now (colors .entry)) (getD indices k 0) 0) ⌝ }
 {
     let mut result = [0u32; 16];
     let mut i: usize = 0;
     while i < 16 {
-        let place = places[i] as usize;
-        result[i] = colors[place];
+        let index = indices[i] as usize;
+        result[i] = colors[index];
         i += 1;
     }
     result

@@ -12,7 +12,7 @@ ghost use Rattle.lists.specs.Lanes.{Lanes};
 ghost use Rattle.categoric_search.specs.forms.Searchable.{inKeyRange, endsInKeyRange, searchable};
 ghost use Rattle.categoric_search.specs.forms.Narrow.{Narrow, narrowKey};
 
-// ---- the keys, once a painting
+// ---- the keys, once per painting
 
 // Whether the counted keys ascend and each lies from -16,777,216 to 16,777,216, as a builder leaves them.
 pub fn searchable(keys: &[i64; 256], count: usize) -> bool

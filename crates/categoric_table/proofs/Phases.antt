@@ -23,7 +23,8 @@ one-choice false true b w nodata = refl
 one-choice false false true w nodata = refl
 one-choice false false false w nodata = refl
 
-masked-once : (e : Exclusions) (size : ℕ) (v : Float) (w nodata : ℕ) → cond (mappableInTable e size v) w nodata ≡ cond (excluded e v) nodata (cond (inTable size v) w nodata)
+masked-once : (e : Exclusions) (size : ℕ) (v : Float) (w nodata : ℕ) → cond (mappableInTable e size v) w nodata ≡ cond (excluded e v) nodata
+    (cond (inTable size v) w nodata)
 unfolding mappableInTable excluded ne isNan
 masked-once e size nan w nodata = unfold inTable lt in refl
 masked-once e size (inf s) w nodata = one-choice (inTable size (inf s)) (eq (inf s) (e .nodata)) (eq (inf s) (e .zero)) w nodata

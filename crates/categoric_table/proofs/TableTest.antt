@@ -106,7 +106,10 @@ above-minus-one m e = lt-ltb 0 (1 * 1 * down e + m * up e * 1) (omega (arith, do
 
 empty-test : (v : Float) → inTable 0 v ≡ false
 unfolding inTable sizeLimit
-empty-test v = is-false (lt minusOne v && lt v minusOne) (not-T (lt minusOne v && lt v minusOne) (λ t. lt-irrefl-float minusOne (lt-lt minusOne v minusOne (and-l (lt minusOne v) (lt v minusOne) t) (and-r (lt minusOne v) (lt v minusOne) t))))
+empty-test v =
+    is-false (lt minusOne v && lt v minusOne)
+    (not-T (lt minusOne v && lt v minusOne)
+    (λ t. lt-irrefl-float minusOne (lt-lt minusOne v minusOne (and-l (lt minusOne v) (lt v minusOne) t) (and-r (lt minusOne v) (lt v minusOne) t))))
 
 abbrev Looked : ℕ → Float → Type 0
 Looked size v = tableRule size (truncated v) ≡ cond (inTable size v) (word (floorOf (clamp size v))) unknown
@@ -114,7 +117,8 @@ Looked size v = tableRule size (truncated v) ≡ cond (inTable size v) (word (fl
 -- from 0 on: the test is that of the whole part, which is the place, raised or not
 raised-place : (m : ℕ) (e : ℤ) → floorOf (atLeastZero (fin false m e)) ≡ m * up e / down e
 unfolding lt
-raised-place m e = by-cond (λ x. floorOf x ≡ m * up e / down e) (lt nought (fin false m e)) (fin false m e) nought (λ t. refl) (λ t. omega (arith, none-whole t))
+raised-place m e =
+    by-cond (λ x. floorOf x ≡ m * up e / down e) (lt nought (fin false m e)) (fin false m e) nought (λ t. refl) (λ t. omega (arith, none-whole t))
   where
     none-whole : T (not (lt nought (fin false m e))) → m * up e / down e < 1
     none-whole t = div-lt-iff-lt-mul (down-pos e) .1 (let l = nltb→le (0 * 1 * down e) (m * up e * 1) t in omega (arith, down-pos e))
@@ -124,8 +128,10 @@ unfolding truncated inTable clamp
 positive-looked n m e h =
     positive-rule (suc n) (m * up e) (down e) h (down-pos e)
     ∙ chosen (ltb (m * up e / down e) (suc n))
-    ∙ sym (ap (λ (b : Bool). cond (b && ltb (m * up e / down e) (suc n)) (word (floorOf (atLeastZero (cond (ltb (m * up e / down e) (suc n)) (fin false m e) nought)))) unknown) (above-minus-one m e))
-    ∙ sym (ap (λ (b : Bool). cond (lt minusOne (fin false m e) && b) (word (floorOf (atLeastZero (cond b (fin false m e) nought)))) unknown) (whole-below m e (sizeLimit (suc n)) (suc n) (limit-value n h)))
+    ∙ sym (ap (λ (b : Bool). cond (b && ltb (m * up e / down e) (suc n))
+    (word (floorOf (atLeastZero (cond (ltb (m * up e / down e) (suc n)) (fin false m e) nought)))) unknown) (above-minus-one m e))
+    ∙ sym (ap (λ (b : Bool). cond (lt minusOne (fin false m e) && b) (word (floorOf (atLeastZero (cond b (fin false m e) nought)))) unknown)
+    (whole-below m e (sizeLimit (suc n)) (suc n) (limit-value n h)))
   where
     chosen : (b : Bool) → cond b (word (m * up e / down e)) unknown ≡ cond b (word (floorOf (atLeastZero (cond b (fin false m e) nought)))) unknown
     chosen true = sym (ap word (raised-place m e))
@@ -168,7 +174,8 @@ unfolding lt truncated tableRule inTable
 looked zero h v = none (truncated v) ∙ sym (ap (λ (b : Bool). cond b (word (floorOf (clamp 0 v))) unknown) (empty-test v))
 looked (suc n) h nan = refl
 looked (suc n) h (inf true) = refl
-looked (suc n) h (inf false) = sym (ap (λ (b : Bool). cond b (word (floorOf (clamp (suc n) (inf false)))) unknown) (infinity-above (sizeLimit (suc n)) (suc n) (limit-value n h)))
+looked (suc n) h (inf false) =
+    sym (ap (λ (b : Bool). cond b (word (floorOf (clamp (suc n) (inf false)))) unknown) (infinity-above (sizeLimit (suc n)) (suc n) (limit-value n h)))
 looked (suc n) h (fin true m e) = negative-looked n m e h
 looked (suc n) h (fin false m e) = positive-looked n m e h
 
@@ -183,7 +190,9 @@ both true b s t = t
 
 pub kept-place : (size : ℕ) → size ≤ 513 → (v : Float) → T (isIndex (clamp size v))
 unfolding isIndex clamp le lt eq
-kept-place size h v = by-cond (λ x. T (isIndex x)) (lt nought low) low nought (λ t. both (le nought low) (lt low arrayEnd) (or-l (lt nought low) (eq nought low) t) under) (λ t. tt)
+kept-place size h v =
+    by-cond (λ x. T (isIndex x)) (lt nought low) low nought (λ t. both (le nought low) (lt low arrayEnd) (or-l (lt nought low) (eq nought low) t) under)
+    (λ t. tt)
   where
     low : Float
     low = cond (lt v (sizeLimit size)) v nought
@@ -215,11 +224,13 @@ pub place-lt : (x : Float) → T (isIndex x) → floorOf x < 513
 place-lt x p = whole-in x (place-under x p)
 
 -- ---- a word looked up first and replaced outside
-pub chosen : (lookup : List ℕ) (size nodata : ℕ) → size ≤ 513 → (v : Float) → cond (inTable size v) (getD lookup (floorOf (clamp size v)) 0) nodata ≡ tableColor lookup size nodata v
+pub chosen : (lookup : List ℕ) (size nodata : ℕ) → size ≤ 513 → (v : Float) → cond (inTable size v) (getD lookup (floorOf (clamp size v)) 0) nodata
+    ≡ tableColor lookup size nodata v
 unfolding tableColor
 chosen lookup size nodata h v = go (inTable size v) ∙ sym (ap (ruleColor (categoricRuleColors lookup [] nodata)) (looked size h v))
   where
-    go : (b : Bool) → cond b (getD lookup (floorOf (clamp size v)) 0) nodata ≡ ruleColor (categoricRuleColors lookup [] nodata) (cond b (word (floorOf (clamp size v))) unknown)
+    go : (b : Bool) → cond b (getD lookup (floorOf (clamp size v)) 0) nodata ≡ ruleColor (categoricRuleColors lookup [] nodata)
+        (cond b (word (floorOf (clamp size v))) unknown)
     go true = refl
     go false = refl
 

@@ -1,4 +1,5 @@
--- What a categoric legend's look-up finds and the colour that this gives; with a table, how a sample is looked up (docs/RULES.md, "Categoric" and "Painting"). Definitions only.
+-- What a categoric legend's look-up finds and the colour that this gives; with a table, how a sample is looked up (docs/RULES.md, "Categoric" and "Painting").
+-- Definitions only.
 use Prim.Native.Nat.{ℕ}
 use mathlib.Core.Bool.{cond}
 use mathlib.Core.List.{List, [], map}

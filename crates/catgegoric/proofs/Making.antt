@@ -35,21 +35,39 @@ use Rattle.categoric_build.proofs.Inserting.{counted}
 -- ---- the record
 -- the arrays that hold some categories, with the table of what is counted in them
 pub recorded : {cs : List Category} {keys : List ℤ} {colors : List ℕ} {count : ℕ} → HoldsCategories cs keys colors count
-    → _≡_ {A = CategoricNumeric} (record { keys = keys; colors = colors; count = count; lookup = padded 0 513 (table (take count keys) (take count colors)); «lookup_count» = tableSize (take count keys) }) (recordOf cs)
+    → _≡_ {A =
+    CategoricNumeric} (record {
+      keys = keys;
+      colors = colors;
+      count = count;
+      lookup = padded 0 513 (table (take count keys) (take count colors));
+      «lookup_count» = tableSize (take count keys);
+    }) (recordOf cs)
 unfolding recordOf
 recorded {cs} {keys} {colors} {count} s =
     let k : take count keys ≡ keysOf cs = counted s in
     let l : take count colors ≡ colorsOf cs = ap₂ take (s .count-is ∙ sym (length-map cs (λ c. c .color))) (s .colors-are) ∙ take-padded 0 256 (colorsOf cs) in
-    ap₂ (λ (a : List ℤ) (b : List ℕ). record { keys = keys; colors = colors; count = count; lookup = padded 0 513 (table a b); «lookup_count» = tableSize a }) k l
-    ∙ ap₂ (λ (a : List ℤ) (b : List ℕ). record { keys = a; colors = b; count = count; lookup = padded 0 513 (table (keysOf cs) (colorsOf cs)); «lookup_count» = tableSize (keysOf cs) }) (s .keys-are) (s .colors-are)
-    ∙ ap (λ (n : ℕ). record { keys = padded (pos 0) 256 (keysOf cs); colors = padded 0 256 (colorsOf cs); count = n; lookup = padded 0 513 (table (keysOf cs) (colorsOf cs)); «lookup_count» = tableSize (keysOf cs) }) (s .count-is)
+    ap₂ (λ (a : List ℤ) (b : List ℕ). record { keys = keys; colors = colors; count = count; lookup = padded 0 513 (table a b); «lookup_count» = tableSize a }) k
+    l
+    ∙ ap₂ (λ (a : List ℤ) (b : List ℕ). record
+    { keys = a; colors = b; count = count; lookup = padded 0 513 (table (keysOf cs) (colorsOf cs)); «lookup_count» = tableSize (keysOf cs) }) (s .keys-are)
+    (s .colors-are)
+    ∙ ap (λ (n : ℕ). record {
+      keys = padded (pos 0) 256 (keysOf cs);
+      colors = padded 0 256 (colorsOf cs);
+      count = n;
+      lookup = padded 0 513 (table (keysOf cs) (colorsOf cs));
+      «lookup_count» = tableSize (keysOf cs);
+    }) (s .count-is)
 
 module _ {a b : Answer} (keys : List ℤ) (colors : List ℕ) (e : b ≡ a) where
   pub refused : {why : Refusal} {r : MadeCategoric} → b ≡ Refused why → r ≡ record { answer = b; categoric = emptyCategoric } → r ≡ madeUnless a keys colors
   unfolding madeUnless
-  refused {why} {r} f g = g ∙ ap₂ (λ x y. record { answer = x; categoric = y }) e (sym (when-refused (recordOf (categories keys colors)) emptyCategoric (sym e ∙ f)))
+  refused {why} {r} f g =
+      g ∙ ap₂ (λ x y. record { answer = x; categoric = y }) e (sym (when-refused (recordOf (categories keys colors)) emptyCategoric (sym e ∙ f)))
 
-  pub made : {r : CategoricNumeric} → b ≡ Done → r ≡ recordOf (categories keys colors) → _≡_ {A = MadeCategoric} (record { answer = b; categoric = r }) (madeUnless a keys colors)
+  pub made : {r : CategoricNumeric} → b ≡ Done → r ≡ recordOf (categories keys colors) → _≡_ {A =
+      MadeCategoric} (record { answer = b; categoric = r }) (madeUnless a keys colors)
   unfolding madeUnless
   made f g = ap₂ (λ x y. record { answer = x; categoric = y }) e (g ∙ sym (when-done (recordOf (categories keys colors)) emptyCategoric (sym e ∙ f)))
 
@@ -63,7 +81,8 @@ check true why rest = refl
 check false why rest = refl
 
 then : (F G : Answer → Answer) → Checks F → Checks G → Checks (λ rest. F (G rest))
-then F G f g rest = f (G rest) ∙ ap (λ (b : Answer). ifDone (F Done) b (F Done)) (g rest) ∙ both (F Done) (G Done) ∙ sym (ap (λ (x : Answer). ifDone x rest x) (f (G Done)))
+then F G f g rest =
+    f (G rest) ∙ ap (λ (b : Answer). ifDone (F Done) b (F Done)) (g rest) ∙ both (F Done) (G Done) ∙ sym (ap (λ (x : Answer). ifDone x rest x) (f (G Done)))
   where
     both : (x y : Answer) → ifDone x (ifDone y rest y) x ≡ ifDone (ifDone x y x) rest (ifDone x y x)
     both Done y = refl
@@ -75,7 +94,8 @@ many-checks count = check (ltb 256 count) TooManyCategories
 
 pub values-checks : (count colors : ℕ) → Checks (valuesRefusal count colors)
 unfolding valuesRefusal
-values-checks count colors = then (manyRefusal count) (refuseIf (not (eqb count colors)) ColorCountDiffers) (many-checks count) (check (not (eqb count colors)) ColorCountDiffers)
+values-checks count colors =
+    then (manyRefusal count) (refuseIf (not (eqb count colors)) ColorCountDiffers) (many-checks count) (check (not (eqb count colors)) ColorCountDiffers)
 
 pub wide-checks : (start end : ℤ) → Checks (wideRefusal start end)
 unfolding wideRefusal
@@ -148,7 +168,9 @@ module _ (start end : ℤ) (colors : ℕ) (e : valueRangeRefusal start end color
   range-wide = range-clear .0
 
   pub range-match : whole (rangeCount start end) ≡ colors
-  range-match = same (rangeCount start end) (not-false (countIs (rangeCount start end) colors) (passed (not (countIs (rangeCount start end) colors)) ColorCountDiffers Done (range-clear .1) .0))
+  range-match =
+      same (rangeCount start end)
+      (not-false (countIs (rangeCount start end) colors) (passed (not (countIs (rangeCount start end) colors)) ColorCountDiffers Done (range-clear .1) .0))
     where
       same : (z : ℤ) → countIs z colors ≡ true → whole z ≡ colors
       same (pos n) h = eqb-true n colors h

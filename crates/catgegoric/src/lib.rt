@@ -13,7 +13,8 @@ ghost use Rattle.lists.specs.Padded.{padded};
 ghost use Rattle.categoric_lists.specs.Keys.{keysRefusal};
 ghost use Rattle.categoric_build.specs.Categories.{categories};
 ghost use Rattle.categoric_build.specs.Table.{tableSize, table};
-ghost use Rattle.catgegoric.specs.Made.{emptyCategoric, recordOf, madeUnless, manyRefusal, valuesRefusal, forValues, forValuesFromRamp, wideRefusal, valueRangeRefusal, forValueRange, forValueRangeFromRamp, categoricRefusal, categoricColors};
+ghost use Rattle.catgegoric.specs.Made.{emptyCategoric, recordOf, madeUnless, manyRefusal, valuesRefusal, forValues, forValuesFromRamp, wideRefusal};
+ghost use Rattle.catgegoric.specs.Made.{valueRangeRefusal, forValueRange, forValueRangeFromRamp, categoricRefusal, categoricColors};
 
 // The first `count` keys, ascending, with their colours, and the table's first `lookup_count` words. Other places are 0.
 #[repr(C)]
@@ -200,7 +201,13 @@ fn new(given: &[i64; 256], words: &[u32; 256], n: usize) -> CategoricNumeric
 // The record of some categories, with their table.
 fn with_lookup(keys: [i64; 256], colors: [u32; 256], count: usize) -> CategoricNumeric
     requires { ⌜ count ≤ 256 ⌝ }
-    ensures { λ r. ⌜ r ≡ record { keys = keys; colors = colors; count = count; lookup = padded 0 513 (table (take count keys) (take count colors)); «lookup_count» = tableSize (take count keys) } ⌝ }
+    ensures { λ r. ⌜ r ≡ record {
+      keys = keys;
+      colors = colors;
+      count = count;
+      lookup = padded 0 513 (table (take count keys) (take count colors));
+      «lookup_count» = tableSize (take count keys);
+    } ⌝ }
 {
     let lookup_count = lookup_size(&keys, count);
     let lookup = table::create_fast_lookup(&keys, &colors, count, lookup_count);

@@ -10,5 +10,6 @@ use Rattle.banded_lanes.specs.Conditions.{firstAndLast}
 use Rattle.claim_chunking.specs.Cases.{caseHolds, allCasesHold, cases}
 
 pub all-hold : T (allCasesHold cases)
-unfolding allCasesHold caseHolds cases lastOf firstBand edges plainRule edged swept chunkColors laneColors eachBand eachAfter eachNext firstAndLast add sub div lt le isNan ofInt ofBits
+unfolding allCasesHold caseHolds cases lastOf firstBand edges plainRule edged swept chunkColors laneColors eachBand eachAfter eachNext firstAndLast add sub div
+    lt le isNan ofInt ofBits
 all-hold = tt

@@ -41,12 +41,15 @@ terms RoundingException x y = record { Alike = Alike; RoundingException = Roundi
 
 module _ (test : Float → Bool) (nodata : ℕ) (test-alike : (v w : Float) → Alike v w → test v ≡ test w) where
   -- unmappable samples get nodata, the others the colour of a rule
-  masked-alike : (rule : Float → ℕ) → ((v w : Float) → Alike v w → rule v ≡ rule w) → (v w : Float) → Alike v w → maskedColor test nodata rule v ≡ maskedColor test nodata rule w
+  masked-alike : (rule : Float → ℕ) → ((v w : Float) → Alike v w → rule v ≡ rule w) → (v w : Float) → Alike v w → maskedColor test nodata rule v
+      ≡ maskedColor test nodata rule w
   masked-alike rule g v w a = ap₂ (λ (b : Bool) (c : ℕ). cond b nodata c) (test-alike v w a) (g v w a)
 
   -- ---- lanes with a rule each: from the law of one mappable sample
-  module _ (RoundingException : Float → Type 0) (x y : ℕ) (lane plain : Float → ℕ) (law : (v : Float) → test v ≡ false → (lane v ≡ plain v) ⊎ RoundingException v)
-      (odd : (v : Float) → RoundingException v → (test v ≡ false) × (lane v ≡ x) × (plain v ≡ y)) (lane-alike : (v w : Float) → Alike v w → lane v ≡ lane w) (L : ℕ) where
+  module _ (RoundingException : Float → Type 0) (x y : ℕ) (lane plain : Float → ℕ)
+      (law : (v : Float) → test v ≡ false → (lane v ≡ plain v) ⊎ RoundingException v)
+      (odd : (v : Float) → RoundingException v → (test v ≡ false) × (lane v ≡ x) × (plain v ≡ y)) (lane-alike : (v w : Float) → Alike v w → lane v ≡ lane w)
+      (L : ℕ) where
     abbrev chunk : List Float → List ℕ
     chunk vs = masked test nodata vs (map lane vs)
 
@@ -88,7 +91,8 @@ module _ (test : Float → Bool) (nodata : ℕ) (test-alike : (v w : Float) → 
           long = λ c e. length-masked test nodata c (colors c) (long c) ∙ e;
           lane = λ c e k h. inl (is-plain c k (omega arith));
           exception = λ c e k h o. absurd o;
-          by-sample = λ c d e f k h a. is-plain c k (omega arith) ∙ masked-alike plain plain-alike (getD c k nan) (getD d k nan) a ∙ sym (is-plain d k (omega arith));
+          by-sample = λ c d e f k h a. is-plain c k (omega arith) ∙ masked-alike plain plain-alike (getD c k nan) (getD d k nan) a
+              ∙ sym (is-plain d k (omega arith));
         }
 
 -- a mappable sample is no NaN
@@ -122,7 +126,8 @@ module _ (l : Legend) (nodata : Nodata) (L : ℕ) where
   abbrev pub termsIn : LegendKind → Terms
   termsIn k = terms (RoundingExceptionIn k l nodata) (getD (l .linear .cmap) 1 0) (getD (l .linear .cmap) 0 0)
 
-  pub of-kind : (k : LegendKind) → T (fits binary32 (l .linear .start)) → T (fits binary32 (l .linear .end)) → LawfulIn k l → PainterLaw (painterIn k l nodata) L (termsIn k)
+  pub of-kind : (k : LegendKind) → T (fits binary32 (l .linear .start)) → T (fits binary32 (l .linear .end)) → LawfulIn k l
+      → PainterLaw (painterIn k l nodata) L (termsIn k)
   unfolding linearPainter bandsPainter categoricPainter
   of-kind kind.Linear f g h =
       let m = l .linear in let u = linearColors (m .cmap) (l .«mapping_config») in let nd = l .«mapping_config» .«nodata_color» in

@@ -40,5 +40,6 @@ module _ (l : Legend) (start : T (fits binary32 (l .linear .start))) (end : T (f
         same = λ nodata L r plain lanes P Q. pixel-same (painter l nodata) L _ (painter-law nodata L) (P .painting) (Q .painting);
         differs = λ nodata L r plain lanes P Q. pixel-differs (painter l nodata) L _ (painter-law nodata L) (P .painting) (Q .painting);
         alone = λ nodata L r s out out' P Q e i n same.
-            pixel-alone (painter l nodata) L _ (painter-law nodata L) (P .painting) (Q .painting) e i n (alike (sampleAt r i) (sampleAt s i) (sample-fits r i) (sample-fits s i) same);
+            pixel-alone (painter l nodata) L _ (painter-law nodata L) (P .painting) (Q .painting) e i n
+            (alike (sampleAt r i) (sampleAt s i) (sample-fits r i) (sample-fits s i) same);
       }

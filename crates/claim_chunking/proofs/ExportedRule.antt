@@ -43,7 +43,8 @@ module _ (first : Answer) (p : Painter) where
       let f = plain-free (firstOf first (p .stored)) (length xs) (length out) (sym (h .answered)) in
       subst (λ q. PlainPainting q xs out Done out') (without (first-done first (p .stored) (f .0) .0)) h
 
-  lane-own : {L : ℕ} {xs : List Float} {out scratch out' scratch' : List ℕ} → LanePainting (refusedFirst first p) L xs out scratch Done out' scratch' → LanePainting p L xs out scratch Done out' scratch'
+  lane-own : {L : ℕ} {xs : List Float} {out scratch out' scratch' : List ℕ} → LanePainting (refusedFirst first p) L xs out scratch Done out' scratch'
+      → LanePainting p L xs out scratch Done out' scratch'
   lane-own {L} {xs} {out} {scratch} {out'} {scratch'} h =
       let f = lane-free (firstOf first (p .stored)) L (length scratch) (length xs) (length out) (sym (h .answered)) in
       subst (λ q. LanePainting q L xs out scratch Done out' scratch') (without (first-done first (p .stored) (f .sound) .0)) h
@@ -58,7 +59,11 @@ module _ (h : Handed) where
   plain-done nodata r output c =
       let p = handedPainter h nodata in
       let d : plainAnswer p (samples r) (c .before) ≡ Done = answered _ (c .outcome .answer) (c .done) in
-      record { before = c .before; painting = plain-own asked (painter (handedLegend h) nodata) (subst (λ a. PlainPainting p (samples r) (c .before) a output) d (c .outcome .painting)) }
+      record {
+        before = c .before;
+        painting = plain-own asked (painter (handedLegend h) nodata)
+            (subst (λ a. PlainPainting p (samples r) (c .before) a output) d (c .outcome .painting));
+      }
 
   lanes-done : (nodata : Nodata) (L : ℕ) (r : Raster) (output : List ℕ) → LanesCalled h nodata L r output → LanesDone (handedLegend h) nodata L r output
   lanes-done nodata L r output c =
@@ -68,7 +73,8 @@ module _ (h : Handed) where
         before = c .before;
         scratch = c .scratch;
         scratch-after = c .scratch-after;
-        painting = lane-own asked (painter (handedLegend h) nodata) (subst (λ a. LanePainting p L (samples r) (c .before) (c .scratch) a output (c .scratch-after)) d (c .outcome .painting));
+        painting = lane-own asked (painter (handedLegend h) nodata)
+            (subst (λ a. LanePainting p L (samples r) (c .before) (c .scratch) a output (c .scratch-after)) d (c .outcome .painting));
       }
 
 bound-fits : {x : Float} → IsF32 x → T (fits binary32 x)

@@ -1,4 +1,5 @@
--- One painter used twice does not meet the rule: where lane paintings are plain paintings, a legend from 0 to 1 refutes it at the fraction with the bits 3B008080. Assumes nothing.
+-- One painter used twice does not meet the rule: where lane paintings are plain paintings, a legend from 0 to 1 refutes it at the fraction with the bits
+-- 3B008080. Assumes nothing.
 use mathlib.Core.Path.{_≡_, refl, sym, _∙_}
 use mathlib.Core.List.{List, [], _∷_, map}
 use Prim.Native.Nat.{ℕ, zero, suc}

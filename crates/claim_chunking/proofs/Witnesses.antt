@@ -19,11 +19,11 @@ use Rattle.legend.specs.declared.Legend.{Legend}
 use Rattle.legend.specs.declared.LegendKind.{LegendKind}
 use Rattle.legend.specs.declared.LegendKind.the-variants as kind
 use Rattle.legend.specs.Record.{linearLegend, bandedLegend, categoricLegend}
-use Rattle.claim_examples.specs.Decimals.{whole}
+use Rattle.claim_examples.specs.Decimals.{integer}
 use Rattle.claim_chunking.specs.Rule.{LawfulIn, Lawful, AskedIn, Asked}
 
 -- ---- from 0 to 255
-pub linear-met : Lawful (linearLegend (record { start = nought; end = whole 255; cmap = replicate 256 0 }) noSettings)
+pub linear-met : Lawful (linearLegend (record { start = nought; end = integer 255; cmap = replicate 256 0 }) noSettings)
 unfolding lt ofInt
 linear-met = refl
 
@@ -31,11 +31,11 @@ linear-met = refl
 abbrev band : (start end : Float) (color : ℕ) → LegendBand
 band start end color = record { start = start; end = end; color = color }
 
-pub banded-met : Asked (bandedLegend (bandedOf (band (whole 0) (whole 1) 1 ∷ band (whole 2) (whole 3) 2 ∷ [])) noSettings)
+pub banded-met : Asked (bandedLegend (bandedOf (band (integer 0) (integer 1) 1 ∷ band (integer 2) (integer 3) 2 ∷ [])) noSettings)
 unfolding bandedOf padded eachBand eachAfter eachNext firstAndLast lastOf add sub lt le isNan ofInt ofBits
 banded-met = (record { finite = tt; starts = tt; ascending = tt; disjoint = tt }, tt)
 
-pub narrowest-met : Asked (bandedLegend (bandedOf (band (whole 0) E 1 ∷ band E (add binary32 E E) 2 ∷ [])) noSettings)
+pub narrowest-met : Asked (bandedLegend (bandedOf (band (integer 0) E 1 ∷ band E (add binary32 E E) 2 ∷ [])) noSettings)
 unfolding bandedOf padded eachBand eachAfter eachNext firstAndLast lastOf add sub lt le isNan ofInt ofBits
 narrowest-met = (record { finite = tt; starts = tt; ascending = tt; disjoint = tt }, tt)
 
@@ -44,7 +44,7 @@ unfolding bandedOf padded eachBand eachNext firstAndLast
 empty-met = (record { finite = tt; starts = tt; ascending = tt; disjoint = tt }, tt)
 
 -- ---- bands that the user does not ask for: from -infinity to 0, and from 0 to infinity
-pub infinite-met : Lawful (bandedLegend (bandedOf (band (inf true) (whole 0) 1 ∷ band (whole 0) (inf false) 2 ∷ [])) noSettings)
+pub infinite-met : Lawful (bandedLegend (bandedOf (band (inf true) (integer 0) 1 ∷ band (integer 0) (inf false) 2 ∷ [])) noSettings)
 unfolding bandedOf padded ascendingDisjoint eachBand eachAfter eachNext firstAndLast lastOf add sub lt le isNan ofInt ofBits
 infinite-met = record { ordered = tt; wide = tt }
 

@@ -78,10 +78,14 @@ zero-sum false false false a b k z h = (omega (arith, h .exact), λ p. refl)
 
 module _ (s : Bool) (w : Bool) (a b c : ℕ) (z : a ≡ 0) where
   sum-is : 0 < b → sum binary32 s a w b c ≡ round binary32 w b c
-  sum-is p = let r = sums binary32 s a w b c in let k = zero-sum s w (r .0) a b (r .1) z (r .2) in r .3 ∙ ap₂ (λ (u : Bool) (n : ℕ). round binary32 u n c) (k .1 p) (k .0)
+  sum-is p =
+      let r = sums binary32 s a w b c in let k = zero-sum s w (r .0) a b (r .1) z (r .2) in r .3 ∙ ap₂ (λ (u : Bool) (n : ℕ). round binary32 u n c) (k .1 p)
+      (k .0)
 
   sum-size : abs (sum binary32 s a w b c) ≡ round binary32 false b c
-  sum-size = let r = sums binary32 s a w b c in let k = zero-sum s w (r .0) a b (r .1) z (r .2) in ap abs (r .3) ∙ abs-round binary32 (r .0) (r .1) c ∙ ap (λ (n : ℕ). round binary32 false n c) (k .0)
+  sum-size =
+      let r = sums binary32 s a w b c in let k = zero-sum s w (r .0) a b (r .1) z (r .2) in ap abs (r .3) ∙ abs-round binary32 (r .0) (r .1) c
+      ∙ ap (λ (n : ℕ). round binary32 false n c) (k .0)
 
 sub-is : (s : Bool) (t : Bool) (n : ℕ) (d : ℤ) → sub binary32 (signedZero s) (fin t n d) ≡ sum binary32 s (0 * 1 * down d) (not t) (n * up d * 1) (1 * down d)
 unfolding sub neg
@@ -127,22 +131,27 @@ module _ (s t : Bool) where
   fraction-zeros : (start end : Float) → fraction start end x ≡ fraction start end y
   unfolding fraction
   fraction-zeros start end =
-      go (le x start) refl ∙ ap (λ (b : Bool). cond b nought (cond (le end y) one (div binary32 (sub binary32 y start) (sub binary32 end start)))) (le-left x y zeros start)
+      go (le x start) refl ∙ ap (λ (b : Bool). cond b nought (cond (le end y) one (div binary32 (sub binary32 y start) (sub binary32 end start))))
+      (le-left x y zeros start)
     where
       go : (b : Bool) → le x start ≡ b
-          → cond b nought (cond (le end x) one (div binary32 (sub binary32 x start) (sub binary32 end start))) ≡ cond b nought (cond (le end y) one (div binary32 (sub binary32 y start) (sub binary32 end start)))
+          → cond b nought (cond (le end x) one (div binary32 (sub binary32 x start) (sub binary32 end start)))
+          ≡ cond b nought (cond (le end y) one (div binary32 (sub binary32 y start) (sub binary32 end start)))
       go true e = refl
       go false e =
           let apart : T (not (eq x start)) = not-T (eq x start) (λ h. T-not (le x start) (rw e tt) (eq→le x start h)) in
           ap₂ (λ (b : Bool) (q : Float). cond b one (div binary32 q (sub binary32 end start))) (le-right x y zeros end) (sub-zeros s t start apart)
 
-  range-zeros : {A : Type 0} (start end : Float) (low high : A) {u v : A} → u ≡ v → linear.byRange start end x low high u ≡ linear.byRange start end y low high v
+  range-zeros : {A : Type 0} (start end : Float) (low high : A) {u v : A} → u ≡ v → linear.byRange start end x low high u
+      ≡ linear.byRange start end y low high v
   range-zeros start end low high e = rw (lt-left x y zeros (sub binary32 start E), lt-right x y zeros (add binary32 end E), e)
 
   module _ (cmap : List ℕ) (start end : Float) (u : UnmappableColors) where
     pub lane-zeros : linear.laneColor cmap start end u x ≡ linear.laneColor cmap start end u y
     unfolding linear.laneColor linear.laneRule
-    lane-zeros = ap (ruleColor (linear.linearRuleColors cmap u)) (range-zeros start end rule.low rule.high (ap (λ (f : Float). linear.entryRule (laneEntry f)) (fraction-zeros start end)))
+    lane-zeros =
+        ap (ruleColor (linear.linearRuleColors cmap u))
+        (range-zeros start end rule.low rule.high (ap (λ (f : Float). linear.entryRule (laneEntry f)) (fraction-zeros start end)))
 
     pub plain-zeros : linear.plainColor cmap start end u x ≡ linear.plainColor cmap start end u y
     unfolding linear.plainColor linear.plainRule plainFraction
@@ -185,4 +194,5 @@ pub categoric-zeros : (s t : Bool) (keys : List ℤ) (colors : List ℕ) (count 
     → categories.plainColor keys colors count lookup size nodata (signedZero s) ≡ categories.plainColor keys colors count lookup size nodata (signedZero t)
 unfolding categories.plainColor categories.plainRule
 categoric-zeros s t keys colors count lookup size nodata =
-    ap (λ z. ruleColor (words.categoricRuleColors lookup colors nodata) (cond (ltb 0 size) (words.tableRule size z) (categories.keyRule keys count z))) (truncated-zeros s t)
+    ap (λ z. ruleColor (words.categoricRuleColors lookup colors nodata) (cond (ltb 0 size) (words.tableRule size z) (categories.keyRule keys count z)))
+    (truncated-zeros s t)

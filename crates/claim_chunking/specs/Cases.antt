@@ -13,7 +13,7 @@ use Rattle.banded_lanes.specs.LaneRule.{laneColors}
 use Rattle.colormapper.specs.Tolerance.{E}
 use Rattle.banded_columns.specs.Order.{startsBelowEnd, clears, eachBand, eachNext}
 use Rattle.banded_lanes.specs.Conditions.{wideBand, firstAndLast}
-use Rattle.claim_examples.specs.Decimals.{whole, decimal}
+use Rattle.claim_examples.specs.Decimals.{integer, decimal}
 
 -- which conditions a list keeps: each band starts below its end; none starts below the end of the one before; the first and the last are wide
 pub record Conditions : Type 0 where
@@ -69,58 +69,58 @@ unfoldable pub cases : List Case
 cases =
     -- 0 to 1 and 2 to 3 keep all: 0.5 beside 7
     record {
-      bands = band (whole 0) (whole 1) 1 ∷ band (whole 2) (whole 3) 2 ∷ [];
+      bands = band (integer 0) (integer 1) 1 ∷ band (integer 2) (integer 3) 2 ∷ [];
       keeps = all;
-      chunk = (decimal 5 10) ∷ (whole 7) ∷ (whole 7) ∷ (whole 7) ∷ [];
+      chunk = (decimal 5 10) ∷ (integer 7) ∷ (integer 7) ∷ (integer 7) ∷ [];
       agrees = true;
     }
     -- 0 to E and E to 2 E, both exactly E wide, keep all: 0.00006 beside 7
     ∷ record {
-      bands = band (whole 0) E 1 ∷ band E (add binary32 E E) 2 ∷ [];
+      bands = band (integer 0) E 1 ∷ band E (add binary32 E E) 2 ∷ [];
       keeps = all;
-      chunk = (decimal 6 100_000) ∷ (whole 7) ∷ (whole 7) ∷ (whole 7) ∷ [];
+      chunk = (decimal 6 100_000) ∷ (integer 7) ∷ (integer 7) ∷ (integer 7) ∷ [];
       agrees = true;
     }
     -- -infinity to 0 and 0 to infinity keep all: infinity beside 0
     ∷ record {
-      bands = band (inf true) (whole 0) 1 ∷ band (whole 0) (inf false) 2 ∷ [];
+      bands = band (inf true) (integer 0) 1 ∷ band (integer 0) (inf false) 2 ∷ [];
       keeps = all;
-      chunk = (inf false) ∷ (whole 0) ∷ (whole 0) ∷ (whole 0) ∷ [];
+      chunk = (inf false) ∷ (integer 0) ∷ (integer 0) ∷ (integer 0) ∷ [];
       agrees = true;
     }
     -- 0 to 2, then 5 to 1, which ends below its start, then 1 to 3: 1.5 beside 2.5
     ∷ record {
-      bands = band (whole 0) (whole 2) 1 ∷ band (whole 5) (whole 1) 2 ∷ band (whole 1) (whole 3) 3 ∷ [];
+      bands = band (integer 0) (integer 2) 1 ∷ band (integer 5) (integer 1) 2 ∷ band (integer 1) (integer 3) 3 ∷ [];
       keeps = but-starts;
       chunk = (decimal 15 10) ∷ (decimal 25 10) ∷ (decimal 25 10) ∷ (decimal 25 10) ∷ [];
       agrees = false;
     }
     -- 0 to 2, then a band with NaN bounds, then 1 to 3: 1.5 beside 2.5
     ∷ record {
-      bands = band (whole 0) (whole 2) 1 ∷ band nan nan 2 ∷ band (whole 1) (whole 3) 3 ∷ [];
+      bands = band (integer 0) (integer 2) 1 ∷ band nan nan 2 ∷ band (integer 1) (integer 3) 3 ∷ [];
       keeps = but-starts;
       chunk = (decimal 15 10) ∷ (decimal 25 10) ∷ (decimal 25 10) ∷ (decimal 25 10) ∷ [];
       agrees = false;
     }
     -- 0 to 2 and 1 to 3 overlap: 1.5 beside 2.5
     ∷ record {
-      bands = band (whole 0) (whole 2) 1 ∷ band (whole 1) (whole 3) 2 ∷ [];
+      bands = band (integer 0) (integer 2) 1 ∷ band (integer 1) (integer 3) 2 ∷ [];
       keeps = but-disjoint;
       chunk = (decimal 15 10) ∷ (decimal 25 10) ∷ (decimal 25 10) ∷ (decimal 25 10) ∷ [];
       agrees = false;
     }
     -- the first band, 0 to 0.00005, is narrower than E: 0.00006 beside 7
     ∷ record {
-      bands = band (whole 0) (decimal 5 100_000) 1 ∷ band (decimal 5 100_000) (whole 1) 2 ∷ [];
+      bands = band (integer 0) (decimal 5 100_000) 1 ∷ band (decimal 5 100_000) (integer 1) 2 ∷ [];
       keeps = but-wide;
-      chunk = (decimal 6 100_000) ∷ (whole 7) ∷ (whole 7) ∷ (whole 7) ∷ [];
+      chunk = (decimal 6 100_000) ∷ (integer 7) ∷ (integer 7) ∷ (integer 7) ∷ [];
       agrees = false;
     }
     -- the last band, 1 to 1.00005, is narrower than E: 0.99997 beside 7
     ∷ record {
-      bands = band (whole 0) (whole 1) 1 ∷ band (whole 1) (decimal 100_005 100_000) 2 ∷ [];
+      bands = band (integer 0) (integer 1) 1 ∷ band (integer 1) (decimal 100_005 100_000) 2 ∷ [];
       keeps = but-wide;
-      chunk = (decimal 99_997 100_000) ∷ (whole 7) ∷ (whole 7) ∷ (whole 7) ∷ [];
+      chunk = (decimal 99_997 100_000) ∷ (integer 7) ∷ (integer 7) ∷ (integer 7) ∷ [];
       agrees = false;
     }
     ∷ []

@@ -63,7 +63,8 @@ Asked l = AskedIn (l .kind) l
 
 -- the exception: a mappable sample of a linear legend whose fraction is the f32 with the bits 3B008080
 abbrev pub RoundingExceptionIn : LegendKind → Legend → Nodata → (sample : Float) → Type 0
-RoundingExceptionIn kind.Linear l nodata v = (unmappable nodata (l .«mapping_config» .«zero_is_nodata») v ≡ false) × ExceptionFraction (l .linear .start) (l .linear .end) v
+RoundingExceptionIn kind.Linear l nodata v =
+    (unmappable nodata (l .«mapping_config» .«zero_is_nodata») v ≡ false) × ExceptionFraction (l .linear .start) (l .linear .end) v
 RoundingExceptionIn kind.Banded l nodata v = ⊥
 RoundingExceptionIn kind.CategoricNumeric l nodata v = ⊥
 
@@ -78,7 +79,8 @@ pub record ChunkingRule (l : Legend) (Plain : Nodata → Raster → List ℕ →
       → (getD lanes i 0 ≡ getD plain i 0) ⊎ ((i < full L (length (samples r))) × RoundingException l nodata (sampleAt r i))
   -- there it has the ramp's entry 1 from lane painting, and entry 0 from plain painting
   pub differs : (nodata : Nodata) (L : ℕ) (r : Raster) (plain lanes : List ℕ) → Plain nodata r plain → Lanes nodata L r lanes
-      → (i : ℕ) → i < full L (length (samples r)) → RoundingException l nodata (sampleAt r i) → (getD lanes i 0 ≡ getD (l .linear .cmap) 1 0) × (getD plain i 0 ≡ getD (l .linear .cmap) 0 0)
+      → (i : ℕ) → i < full L (length (samples r)) → RoundingException l nodata (sampleAt r i)
+      → (getD lanes i 0 ≡ getD (l .linear .cmap) 1 0) × (getD plain i 0 ≡ getD (l .linear .cmap) 0 0)
   -- two rasters of one length with the same sample at a pixel have the same colour there from lane painting
   pub alone : (nodata : Nodata) (L : ℕ) (r s : Raster) (out out' : List ℕ) → Lanes nodata L r out → Lanes nodata L s out'
       → length (samples r) ≡ length (samples s) → (i : ℕ) → i < length (samples r) → SameSample (sampleAt r i) (sampleAt s i) → getD out i 0 ≡ getD out' i 0

@@ -19,5 +19,7 @@ use Rattle.legend_range.specs.ValueRanges as ranges
 use Rattle.claim_examples.specs.FirstRefusals.{allGiven, rows}
 
 pub all-given : T (allGiven rows)
-unfolding allGiven rows tabulate hexColor hexForm hexDigit twoDigits hexPair pairAt alphaOf ofPairs listRefusal linear.rangeRefusal linear.linearUnless bandedOf beside bandedRefusal equalRefusal withEqualBands firstEmpty manualRefusal withManualRanges tooWide rangeKeys outsideFrom madeUnless manyRefusal valuesRefusal wideRefusal valueRangeRefusal categoricRefusal plainRefusal laneRefusal storedRefusal ranges.totalRangeRefusal lt le eq ofInt
+unfolding allGiven rows tabulate hexColor hexForm hexDigit twoDigits hexPair pairAt alphaOf ofPairs listRefusal linear.rangeRefusal linear.linearUnless bandedOf
+    beside bandedRefusal equalRefusal withEqualBands firstEmpty manualRefusal withManualRanges tooWide rangeKeys outsideFrom madeUnless manyRefusal
+    valuesRefusal wideRefusal valueRangeRefusal categoricRefusal plainRefusal laneRefusal storedRefusal ranges.totalRangeRefusal lt le eq ofInt
 all-given = tt

@@ -29,7 +29,7 @@ use Rattle.banded.specs.EqualBands.{withEqualBands}
 use Rattle.categoric_keys.specs.Rule as categories
 use Rattle.catgegoric.specs.declared.CategoricNumeric.{CategoricNumeric}
 use Rattle.catgegoric.specs.Made.{forValues}
-use Rattle.claim_examples.specs.Decimals.{whole, decimal}
+use Rattle.claim_examples.specs.Decimals.{integer, decimal}
 
 -- G is the ramp whose entry i is i, i, i, 255
 unfoldable pub gray : ℕ → ℕ
@@ -92,12 +92,12 @@ exampleWord (laneRamp fraction) = entryColor G (laneEntry fraction)
 exampleWord (linearOver start end value) = linear.plainColor G start end settings value
 exampleWord (bandsAt bs value) = bands.plainColor bs settings value
 exampleWord (chunkAt bs values k) = getD (laneColors bs settings values) k 0
-exampleWord (equalFromRamp count k) = getD (withEqualBands count (whole 0) (whole 1) (rampColors count G) .banded .bands) k blankBand .color
+exampleWord (equalFromRamp count k) = getD (withEqualBands count (integer 0) (integer 1) (rampColors count G) .banded .bands) k blankBand .color
 exampleWord (categoryAt keys colors value) = categoryOf (forValues keys colors .categoric) value
 exampleWord (categoryCount keys colors) = forValues keys colors .categoric .count
 exampleWord (tableWords keys colors) = forValues keys colors .categoric .«lookup_count»
 exampleWord (hexText text) = hexWordOrNumber (hexColor text)
-exampleWord (zeroIsNodata value) = maskedColor (unmappable Absent true) nodata (linear.plainColor G (whole 0) (whole 255) settings) value
+exampleWord (zeroIsNodata value) = maskedColor (unmappable Absent true) nodata (linear.plainColor G (integer 0) (integer 255) settings) value
 
 pub record Example : Type 0 where
   pub line : ℕ
@@ -109,11 +109,11 @@ row line question answer = record { line = line; question = question; answer = a
 
 -- bands 0 to 1 (A) and 2 to 3 (B)
 abbrev gapped : List LegendBand
-gapped = band (whole 0) (whole 1) A ∷ band (whole 2) (whole 3) B ∷ []
+gapped = band (integer 0) (integer 1) A ∷ band (integer 2) (integer 3) B ∷ []
 
 -- bands 0 to 0.00005 (A) and 0.00005 to 1 (B)
 abbrev narrow : List LegendBand
-narrow = band (whole 0) (decimal 5 100_000) A ∷ band (decimal 5 100_000) (whole 1) B ∷ []
+narrow = band (integer 0) (decimal 5 100_000) A ∷ band (decimal 5 100_000) (integer 1) B ∷ []
 
 -- two keys with the colours A and B
 abbrev two : List ℕ
@@ -127,42 +127,42 @@ examples =
     ∷ row 2 (plainRamp exceptionFraction) (gray 0)
     ∷ row 2 (laneRamp exceptionFraction) (gray 1)
     -- 1 and a NaN
-    ∷ row 3 (plainRamp (whole 1)) (gray 255)
-    ∷ row 3 (laneRamp (whole 1)) (gray 255)
+    ∷ row 3 (plainRamp (integer 1)) (gray 255)
+    ∷ row 3 (laneRamp (integer 1)) (gray 255)
     ∷ row 3 (plainRamp nan) TRANSPARENT
     ∷ row 3 (laneRamp nan) TRANSPARENT
     -- 0 to 255: -E and -0.0002
-    ∷ row 4 (linearOver (whole 0) (whole 255) (neg E)) (gray 0)
-    ∷ row 4 (linearOver (whole 0) (whole 255) (neg (decimal 2 10_000))) low
+    ∷ row 4 (linearOver (integer 0) (integer 255) (neg E)) (gray 0)
+    ∷ row 4 (linearOver (integer 0) (integer 255) (neg (decimal 2 10_000))) low
     -- 5 to 5: 5
-    ∷ row 5 (linearOver (whole 5) (whole 5) (whole 5)) (gray 0)
+    ∷ row 5 (linearOver (integer 5) (integer 5) (integer 5)) (gray 0)
     -- 0, 1, 3, 3.5, -0.5
-    ∷ row 6 (bandsAt gapped (whole 0)) A
-    ∷ row 6 (bandsAt gapped (whole 1)) nodata
-    ∷ row 6 (bandsAt gapped (whole 3)) B
+    ∷ row 6 (bandsAt gapped (integer 0)) A
+    ∷ row 6 (bandsAt gapped (integer 1)) nodata
+    ∷ row 6 (bandsAt gapped (integer 3)) B
     ∷ row 6 (bandsAt gapped (decimal 35 10)) high
     ∷ row 6 (bandsAt gapped (neg (decimal 5 10))) low
     -- 0.00006: plainly, in a chunk with 7.0, in a chunk wholly inside
     ∷ row 7 (bandsAt narrow (decimal 6 100_000)) B
-    ∷ row 7 (chunkAt narrow ((decimal 6 100_000) ∷ (whole 7) ∷ (decimal 6 100_000) ∷ (decimal 6 100_000) ∷ []) 0) A
+    ∷ row 7 (chunkAt narrow ((decimal 6 100_000) ∷ (integer 7) ∷ (decimal 6 100_000) ∷ (decimal 6 100_000) ∷ []) 0) A
     ∷ row 7 (chunkAt narrow ((decimal 6 100_000) ∷ (decimal 5 10) ∷ (decimal 6 100_000) ∷ (decimal 6 100_000) ∷ []) 0) B
     ∷ row 8 (equalFromRamp 11 10) TRANSPARENT
     -- 3, -0.5, 5.9, 6
-    ∷ row 9 (categoryAt (pos 2 ∷ pos 5 ∷ []) two (whole 3)) TRANSPARENT
+    ∷ row 9 (categoryAt (pos 2 ∷ pos 5 ∷ []) two (integer 3)) TRANSPARENT
     ∷ row 9 (categoryAt (pos 2 ∷ pos 5 ∷ []) two (neg (decimal 5 10))) TRANSPARENT
     ∷ row 9 (categoryAt (pos 2 ∷ pos 5 ∷ []) two (decimal 59 10)) B
-    ∷ row 9 (categoryAt (pos 2 ∷ pos 5 ∷ []) two (whole 6)) nodata
+    ∷ row 9 (categoryAt (pos 2 ∷ pos 5 ∷ []) two (integer 6)) nodata
     -- 3, -1.5
-    ∷ row 10 (categoryAt (negsuc 0 ∷ pos 5 ∷ []) two (whole 3)) nodata
+    ∷ row 10 (categoryAt (negsuc 0 ∷ pos 5 ∷ []) two (integer 3)) nodata
     ∷ row 10 (categoryAt (negsuc 0 ∷ pos 5 ∷ []) two (neg (decimal 15 10))) A
     -- 7
     ∷ row 11 (categoryCount (pos 7 ∷ pos 7 ∷ []) two) 1
-    ∷ row 11 (categoryAt (pos 7 ∷ pos 7 ∷ []) two (whole 7)) B
+    ∷ row 11 (categoryAt (pos 7 ∷ pos 7 ∷ []) two (integer 7)) B
     ∷ row 11 (tableWords (pos 1 ∷ pos 512 ∷ []) two) 513
     ∷ row 11 (tableWords (pos 1 ∷ pos 513 ∷ []) two) 0
     -- #+F0000, and -0.0
     ∷ row 12 (hexText (35 ∷ 43 ∷ 70 ∷ 48 ∷ 48 ∷ 48 ∷ 48 ∷ [])) (wordOf (record { r = 15; g = 0; b = 0; a = 255 }))
-    ∷ row 12 (zeroIsNodata (neg (whole 0))) nodata
+    ∷ row 12 (zeroIsNodata (neg (integer 0))) nodata
     ∷ []
 
 -- each row holds

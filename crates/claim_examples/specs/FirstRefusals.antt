@@ -1,4 +1,5 @@
--- Refusals in the order of the table's rows: for each place of docs/RULES.md, "Where each call says no", and each two refusals that can both apply there, an input to which both apply, and the one that is given. Definitions only.
+-- Refusals in the order of the table's rows: for each place of docs/RULES.md, "Where each call says no", and each two refusals that can both apply there, an
+-- input to which both apply, and the one that is given. Definitions only.
 use mathlib.Core.Bool.{Bool, true, _&&_}
 use mathlib.Core.List.{List, [], _∷_}
 use Prim.Native.Nat.{ℕ}
@@ -22,7 +23,7 @@ use Rattle.catgegoric.specs.Made.{forValues, forValueRange}
 use Rattle.painting.specs.Contracts.{plainRefusal, laneRefusal}
 use Rattle.legend.specs.Record.{categoricLegend}
 use Rattle.legend_range.specs.ValueRanges.{totalRangeRefusal}
-use Rattle.claim_examples.specs.Decimals.{whole}
+use Rattle.claim_examples.specs.Decimals.{integer}
 
 abbrev of-hex : HexColor → Answer
 of-hex (Made color) = Done
@@ -30,7 +31,7 @@ of-hex (Refused why) = answer.Refused why
 
 -- ranges that are empty, from 1 to 0
 abbrev empty : ValueRange
-empty = record { start = whole 1; end = whole 0 }
+empty = record { start = integer 1; end = integer 0 }
 
 -- the least and the largest i64
 abbrev least : ℤ
@@ -60,15 +61,15 @@ rows =
     row 1 (of-hex (hexColor []))
     ∷ row 2 (of-hex (hexColor (120 ∷ 48 ∷ 103 ∷ 48 ∷ 48 ∷ 48 ∷ 48 ∷ [])))
     -- linear from a list: 4 and 7; 5 and 7
-    ∷ row 4 (linearOfList (whole 1) (whole 0) (1 ∷ []) .answer)
-    ∷ row 5 (linearOfList (whole 1) (whole 0) (replicate 257 1) .answer)
+    ∷ row 4 (linearOfList (integer 1) (integer 0) (1 ∷ []) .answer)
+    ∷ row 5 (linearOfList (integer 1) (integer 0) (replicate 257 1) .answer)
     -- equal bands: 7 and 8; 7 and 9; 8 and 9
-    ∷ row 7 (withEqualBands 65 (whole 1) (whole 0) (replicate 65 1) .answer)
-    ∷ row 7 (withEqualBands 2 (whole 1) (whole 0) (1 ∷ []) .answer)
-    ∷ row 8 (withEqualBands 65 (whole 0) (whole 1) (1 ∷ []) .answer)
+    ∷ row 7 (withEqualBands 65 (integer 1) (integer 0) (replicate 65 1) .answer)
+    ∷ row 7 (withEqualBands 2 (integer 1) (integer 0) (1 ∷ []) .answer)
+    ∷ row 8 (withEqualBands 65 (integer 0) (integer 1) (1 ∷ []) .answer)
     -- manual ranges: 8 and 10; 8 and 9; 10 and 9
     ∷ row 8 (withManualRanges (record { ranges = replicate 64 empty; count = 65 }) (replicate 65 1) .answer)
-    ∷ row 8 (withManualRanges (record { ranges = replicate 64 (record { start = whole 0; end = whole 1 }); count = 65 }) (1 ∷ []) .answer)
+    ∷ row 8 (withManualRanges (record { ranges = replicate 64 (record { start = integer 0; end = integer 1 }); count = 65 }) (1 ∷ []) .answer)
     ∷ row 10 (withManualRanges (record { ranges = replicate 64 empty; count = 1 }) [] .answer)
     -- categories by values: 11 and 9; 11 and 17; 9 and 17
     ∷ row 11 (forValues (replicate 257 (pos 1)) (1 ∷ []) .answer)
@@ -80,7 +81,8 @@ rows =
     ∷ row 11 (forValueRange (pos 16777000) (pos 16777256) (replicate 257 1) .answer)
     ∷ row 9 (forValueRange above above [] .answer)
     -- the range and the list of colours: 16 and 17
-    ∷ row 16 (totalRangeRefusal (categoricLegend (record { keys = replicate 256 above; colors = replicate 256 1; count = 257; lookup = replicate 513 0; «lookup_count» = 0 }) noSettings))
+    ∷ row 16 (totalRangeRefusal
+    (categoricLegend (record { keys = replicate 256 above; colors = replicate 256 1; count = 257; lookup = replicate 513 0; «lookup_count» = 0 }) noSettings))
     -- plain painting: 16 and 13
     ∷ row 16 (plainRefusal (bandedRefusal 65) 4 3)
     -- lane painting: 16 and 14, 15, 13 at once; 14 and 15; 14 and 13; 15 and 13

@@ -76,5 +76,6 @@ module _ (text : List ℕ) where
       in rw (ne-eqb (length text) 0 (λ z. omega arith), e)
 
   -- the pairs as the code read them
-  pub of-read : {r g b a : Hex} {c : HexColor} → hexForm text ≡ true → c ≡ ofPairs r g b a → r ≡ pairAt text 0 → g ≡ pairAt text 1 → b ≡ pairAt text 2 → a ≡ alphaOf text → c ≡ hexColor text
+  pub of-read : {r g b a : Hex} {c : HexColor} → hexForm text ≡ true → c ≡ ofPairs r g b a → r ≡ pairAt text 0 → g ≡ pairAt text 1 → b ≡ pairAt text 2 → a
+      ≡ alphaOf text → c ≡ hexColor text
   of-read f e er eg eb ea = e ∙ (λ j. ofPairs (er j) (eg j) (eb j) (ea j)) ∙ sym (of-formed f)

@@ -30,13 +30,16 @@ unfolding listRefusal
 few n e = ltb-false 256 n (passed (ltb 256 n) TooManyColors Done (passed (ltb n 2) TooFewColors (refuseIf (ltb 256 n) TooManyColors Done) e .1) .0)
 
 module _ {a b : Answer} (colors : List ℕ) (e : b ≡ a) where
-  pub refused : {why : Refusal} {r : ProcessedColorMap} → b ≡ Refused why → r ≡ emptyRamp → _≡_ {A = MadeRamp} (record { answer = b; ramp = r }) (spreadUnless a colors)
+  pub refused : {why : Refusal} {r : ProcessedColorMap} → b ≡ Refused why → r ≡ emptyRamp → _≡_ {A =
+      MadeRamp} (record { answer = b; ramp = r }) (spreadUnless a colors)
   unfolding spreadUnless
   refused {why} {r} f g = ap₂ (λ x y. record { answer = x; ramp = y }) e (g ∙ sym (when-refused (record { cmap = spread colors }) emptyRamp (sym e ∙ f)))
 
-  pub made : {cmap : List ℕ} → b ≡ Done → cmap ≡ spread colors → _≡_ {A = MadeRamp} (record { answer = b; ramp = record { cmap = cmap } }) (spreadUnless a colors)
+  pub made : {cmap : List ℕ} → b ≡ Done → cmap ≡ spread colors → _≡_ {A =
+      MadeRamp} (record { answer = b; ramp = record { cmap = cmap } }) (spreadUnless a colors)
   unfolding spreadUnless
-  made f g = ap₂ (λ x y. record { answer = x; ramp = y }) e (ap (λ l. record { cmap = l }) g ∙ sym (when-done (record { cmap = spread colors }) emptyRamp (sym e ∙ f)))
+  made f g =
+      ap₂ (λ x y. record { answer = x; ramp = y }) e (ap (λ l. record { cmap = l }) g ∙ sym (when-done (record { cmap = spread colors }) emptyRamp (sym e ∙ f)))
 
 -- a list of 2 to 256 colours is not refused
 pub accepted : (n : ℕ) → 2 ≤ n → n ≤ 256 → listRefusal n ≡ Done

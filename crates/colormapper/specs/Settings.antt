@@ -17,4 +17,5 @@ orElse Absent other = other
 
 -- low and high are what a kind takes where the settings have none
 abbrev pub unmappableColors : MappingConfig → (low high : ℕ) → UnmappableColors
-unmappableColors config low high = record { nodata = config .«nodata_color»; low = orElse (config .«out_of_range_low_color») low; high = orElse (config .«out_of_range_high_color») high }
+unmappableColors config low high =
+    record { nodata = config .«nodata_color»; low = orElse (config .«out_of_range_low_color») low; high = orElse (config .«out_of_range_high_color») high }

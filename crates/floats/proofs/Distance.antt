@@ -1,4 +1,5 @@
--- |x - y| and |y - x| are the same float. From the end of an interval on, whose width in f32 is E at least, nothing is within E of its start, and before its start nothing is within E of its end. Assumes nothing.
+-- |x - y| and |y - x| are the same float. From the end of an interval on, whose width in f32 is E at least, nothing is within E of its start, and before its
+-- start nothing is within E of its end. Assumes nothing.
 use mathlib.Core.Path.{_≡_, refl, sym, ap, _∙_}
 use Prim.Native.Nat.{ℕ, zero, suc, _+_, _-_, _*_, _^_, _≤_, _<_}
 use native.Mathlib.Nat.{mul-comm}
@@ -46,7 +47,8 @@ abs-sum f true a false b c = abs-round f true (a + b) c ∙ ap (λ (n : ℕ). ro
 abs-sum f false a true b c = abs-round f false (a + b) c ∙ ap (λ (n : ℕ). round f false n c) (omega arith) ∙ sym (abs-round f true (b + a) c)
 abs-sum f false a false b c = apart f true false a b c ∙ ap (λ (n : ℕ). round f false n c) (omega arith) ∙ sym (apart f true false b a c)
 
-sub-is : (f : Format) (s : Bool) (m : ℕ) (e : ℤ) (t : Bool) (n : ℕ) (d : ℤ) → sub f (fin s m e) (fin t n d) ≡ sum f s (m * up e * down d) (not t) (n * up d * down e) (down e * down d)
+sub-is : (f : Format) (s : Bool) (m : ℕ) (e : ℤ) (t : Bool) (n : ℕ) (d : ℤ) → sub f (fin s m e) (fin t n d) ≡ sum f s (m * up e * down d) (not t)
+    (n * up d * down e) (down e * down d)
 unfolding sub
 sub-is f s m e t n d = refl
 
@@ -99,10 +101,12 @@ beyond f E (fin s m e) hi (inf t) p q w h = unfold sub in le-top E (le-l E (sub 
 beyond f E lo hi (fin t n d) p q w h =
     let v = fin t n d in
     le-le E (sub f hi lo) (abs (sub f v lo)) w
-    (le-le (sub f hi lo) (sub f v lo) (abs (sub f v lo)) (sub-mono f hi v lo lo q tt p p h (le-refl-float lo (finite-real lo p))) (abs-ge (sub f v lo) (sub-real f v lo tt p)))
+    (le-le (sub f hi lo) (sub f v lo) (abs (sub f v lo)) (sub-mono f hi v lo lo q tt p p h (le-refl-float lo (finite-real lo p)))
+    (abs-ge (sub f v lo) (sub-real f v lo tt p)))
 
 -- and up to lo nothing is within E of hi
-pub before : (f : Format) (E lo hi v : Float) → T (finite lo) → T (finite hi) → T (not (isNan v)) → T (le E (sub f hi lo)) → T (le v lo) → T (le E (abs (sub f v hi)))
+pub before : (f : Format) (E lo hi v : Float) → T (finite lo) → T (finite hi) → T (not (isNan v)) → T (le E (sub f hi lo)) → T (le v lo)
+    → T (le E (abs (sub f v hi)))
 unfolding isNan
 before f E lo hi nan p q r w h = absurd r
 before f E lo (fin s m e) (inf t) p q r w h = unfold sub in le-top E (le-l E (sub f (fin s m e) lo) w)
@@ -110,4 +114,5 @@ before f E lo hi (fin t n d) p q r w h =
     let v = fin t n d in
     rw (abs-sub f v hi)
     (le-le E (sub f hi lo) (abs (sub f hi v)) w
-    (le-le (sub f hi lo) (sub f hi v) (abs (sub f hi v)) (sub-mono f hi hi lo v q q p tt (le-refl-float hi (finite-real hi q)) h) (abs-ge (sub f hi v) (sub-real f hi v q tt))))
+    (le-le (sub f hi lo) (sub f hi v) (abs (sub f hi v)) (sub-mono f hi hi lo v q q p tt (le-refl-float hi (finite-real hi q)) h)
+    (abs-ge (sub f hi v) (sub-real f hi v q tt))))

@@ -1,7 +1,8 @@
 -- The language's bits of a float, and float of bits, are those of `Encodings`, in both formats, and there are no others. Assumes nothing.
 use mathlib.Core.Path.{_≡_, refl, sym, ap, _∙_, subst, subst₂}
 use Prim.Native.Nat.{ℕ, zero, suc, _+_, _-_, _*_, _/_, _%_, _^_, _≤_, _<_}
-use native.Mathlib.Nat.{le-of-eq, le-trans, lt-of-lt-of-le, lt-of-le-of-lt, le-of-suc-le-suc, zero-lt-suc, mul-comm, mul-assoc, mul-pos, mul-le-mul-right, suc-mul, two-mul, add-mul, suc-le-suc-iff, mod-lt, mod-eq-of-lt, mod-eq-sub-mod, div-add-mod', div-lt-iff-lt-mul, le-div-iff-mul-le}
+use native.Mathlib.Nat.{le-of-eq, le-trans, lt-of-lt-of-le, lt-of-le-of-lt, le-of-suc-le-suc, zero-lt-suc, mul-comm, mul-assoc, mul-pos, mul-le-mul-right}
+use native.Mathlib.Nat.{suc-mul, two-mul, add-mul, suc-le-suc-iff, mod-lt, mod-eq-of-lt, mod-eq-sub-mod, div-add-mod', div-lt-iff-lt-mul, le-div-iff-mul-le}
 use native.Mathlib.Omega.{arith}
 use mathlib.Core.Bool.{Bool, true, false, not, cond}
 use lib.Dec.{T, leb, eqb, leb→le, nleb→lt, eqb→eq}

@@ -12,7 +12,8 @@ use lib.Ieee.{Float, nan, inf, fin, Format, binary32, binary64, prec, emax, low,
 use lib.Ieee.Fits.{down-pos}
 use lib.Ieee.Order.{round-mono}
 use lib.Ieee.Scale.{round-same, finite}
-use Rattle.floats.proofs.Order.{depth, size-at, off, key, Serves, serves, depthOf, sizeOf, le→key, key→le, le-le, le-l, le-r, lt-over, down-is, units-l, units-r}
+use Rattle.floats.proofs.Order.{depth, size-at, off, key, Serves, serves, depthOf, sizeOf, le→key, key→le, le-le, le-l, le-r, lt-over, down-is, units-l}
+use Rattle.floats.proofs.Order.{units-r}
 use Rattle.floats.specs.Signed.{positive, negative}
 use Rattle.floats.proofs.Sums.{sums, add-is}
 
@@ -77,16 +78,19 @@ from-zero f a c C = round-mono f 0 1 a c (pow-pos 0) C (rw (zero-mul c) zero-le)
 pub round-signed : (f : Format) (B D : ℕ) (s t : Bool) (a b : ℕ) → 0 < D → a < B → b < B → off B s a ≤ off B t b → T (le (round f s a D) (round f t b D))
 round-signed f B D false false a b C A' B' h = round-mono f a D b D C C (mul-le-mul-right D (omega arith))
 round-signed f B D true true a b C A' B' h =
-    rw (round-neg f false a D, round-neg f false b D) (neg-anti (round f false b D) (round f false a D) (round-mono f b D a D C C (mul-le-mul-right D (omega arith))))
+    rw (round-neg f false a D, round-neg f false b D)
+    (neg-anti (round f false b D) (round f false a D) (round-mono f b D a D C C (mul-le-mul-right D (omega arith))))
 round-signed f B D true false a b C A' B' h =
     let z = round f false 0 1 in
-    let n : T (le (round f true a D) (round f true 0 1)) = rw (round-neg f false a D, round-neg f false 0 1) (neg-anti z (round f false a D) (from-zero f a D C)) in
+    let n : T (le (round f true a D) (round f true 0 1)) = rw (round-neg f false a D, round-neg f false 0 1)
+    (neg-anti z (round f false a D) (from-zero f a D C)) in
     le-le (round f true a D) (round f true 0 1) (round f false b D) n (le-le (round f true 0 1) z (round f false b D) (zeros f) (from-zero f b D C))
 round-signed f B D false true a b C A' B' h = rw (nought f false a D C (omega arith), nought f true b D C (omega arith)) (zeros' f)
 
 -- ---- a signed sum
 -- the exact sum, moved up by B + B
-placed : (B : ℕ) (s : Bool) (a : ℕ) (t : Bool) (b : ℕ) (u : Bool) (n : ℕ) → a < B → b < B → positive s a + positive t b + negative u n ≡ negative s a + negative t b + positive u n
+placed : (B : ℕ) (s : Bool) (a : ℕ) (t : Bool) (b : ℕ) (u : Bool) (n : ℕ) → a < B → b < B → positive s a + positive t b + negative u n
+    ≡ negative s a + negative t b + positive u n
     → (n < B + B) × (off (B + B) u n ≡ off B s a + off B t b)
 placed B true a true b true n x y h = omega arith
 placed B true a true b false n x y h = omega arith
@@ -118,9 +122,11 @@ bool-iff false false f g = refl
 
 ltb-same : (a b x y c d : ℕ) → 0 < c → 0 < d → a * c ≡ x * d → b * c ≡ y * d → ltb a b ≡ ltb x y
 ltb-same a b x y c d C D p q =
-    bool-iff (ltb a b) (ltb x y) (λ (t : T (ltb a b)). lt→ltb x y (lt-over a b x y c d C D p q (ltb→lt a b t))) (λ (t : T (ltb x y)). lt→ltb a b (lt-over x y a b d c D C (sym p) (sym q) (ltb→lt x y t)))
+    bool-iff (ltb a b) (ltb x y) (λ (t : T (ltb a b)). lt→ltb x y (lt-over a b x y c d C D p q (ltb→lt a b t)))
+    (λ (t : T (ltb x y)). lt→ltb a b (lt-over x y a b d c D C (sym p) (sym q) (ltb→lt x y t)))
 
-sum-same : (f : Format) (s : Bool) (a : ℕ) (t : Bool) (b c a' b' c' : ℕ) → 0 < c → 0 < c' → a * c' ≡ a' * c → b * c' ≡ b' * c → sum f s a t b c ≡ sum f s a' t b' c'
+sum-same : (f : Format) (s : Bool) (a : ℕ) (t : Bool) (b c a' b' c' : ℕ) → 0 < c → 0 < c' → a * c' ≡ a' * c → b * c' ≡ b' * c → sum f s a t b c
+    ≡ sum f s a' t b' c'
 unfolding sum
 sum-same f s a t b c a' b' c' C C' p q =
     let l₁ = ltb-same a b a' b' c' c C' C p q in
@@ -138,23 +144,27 @@ add-at f K s m e t n d h k =
     let dd : down e * down d ≡ 2 ^ (depth e + depth d) = ap₂ (λ (x y : ℕ). x * y) (down-is e) (down-is d) ∙ sym (pow-add 2 (depth e) (depth d)) in
     add-is f s m e t n d
     ∙ ap (λ (c : ℕ). sum f s (m * up e * down d) t (n * up d * down e) c) dd
-    ∙ sum-same f s (m * up e * down d) t (n * up d * down e) (2 ^ (depth e + depth d)) (size-at K m e) (size-at K n d) (2 ^ K) (pow-pos (depth e + depth d)) (pow-pos K) (units-l m e d K h) (units-r n e d K k)
+    ∙ sum-same f s (m * up e * down d) t (n * up d * down e) (2 ^ (depth e + depth d)) (size-at K m e) (size-at K n d) (2 ^ K) (pow-pos (depth e + depth d))
+    (pow-pos K) (units-l m e d K h) (units-r n e d K k)
 
-pub add-mono : (f : Format) (x x' y y' : Float) → T (finite x) → T (finite x') → T (finite y) → T (finite y') → T (le x x') → T (le y y') → T (le (add f x y) (add f x' y'))
+pub add-mono : (f : Format) (x x' y y' : Float) → T (finite x) → T (finite x') → T (finite y) → T (finite y') → T (le x x') → T (le y y')
+    → T (le (add f x y) (add f x' y'))
 add-mono f (fin s m e) (fin s' m' e') (fin t n d) (fin t' n' d') p p' q q' h g =
     let K = depth e + depth e' + depth d + depth d' in
     let B = suc (size-at K m e + size-at K m' e' + size-at K n d + size-at K n' d') in
     let hk = le→key K B (fin s m e) (fin s' m' e') (omega arith) (omega arith) h in
     let gk = le→key K B (fin t n d) (fin t' n' d') (omega arith) (omega arith) g in
     rw (add-at f K s m e t n d (omega arith) (omega arith), add-at f K s' m' e' t' n' d' (omega arith) (omega arith))
-    (sum-mono f B s (size-at K m e) t (size-at K n d) s' (size-at K m' e') t' (size-at K n' d') (2 ^ K) (pow-pos K) (omega arith) (omega arith) (omega arith) (omega arith) (omega arith))
+    (sum-mono f B s (size-at K m e) t (size-at K n d) s' (size-at K m' e') t' (size-at K n' d') (2 ^ K) (pow-pos K) (omega arith) (omega arith) (omega arith)
+    (omega arith) (omega arith))
 
 -- ---- differences
 neg-finite : (x : Float) → T (finite x) → T (finite (neg x))
 unfolding neg
 neg-finite (fin s m e) p = p
 
-pub sub-mono : (f : Format) (x x' y y' : Float) → T (finite x) → T (finite x') → T (finite y) → T (finite y') → T (le x x') → T (le y' y) → T (le (sub f x y) (sub f x' y'))
+pub sub-mono : (f : Format) (x x' y y' : Float) → T (finite x) → T (finite x') → T (finite y) → T (finite y') → T (le x x') → T (le y' y)
+    → T (le (sub f x y) (sub f x' y'))
 unfolding sub
 sub-mono f x x' y y' p p' q q' h g = add-mono f x x' (neg y) (neg y') p p' (neg-finite y q) (neg-finite y' q') h (neg-anti y' y g)
 
@@ -170,10 +180,12 @@ unit-split K e h = ap (λ (z : ℕ). 2 ^ z) (split K (depth e) h) ∙ pow-add 2 
     split : (K i : ℕ) → i ≤ K → K ≡ K - i + i
     split K i h = omega arith
 
-mul-at : (f : Format) (K : ℕ) (s : Bool) (m : ℕ) (e : ℤ) (n : ℕ) (d : ℤ) → depth e ≤ K → mul f (fin s m e) (fin false n d) ≡ round f s (size-at K m e * (n * up d)) (2 ^ K * down d)
+mul-at : (f : Format) (K : ℕ) (s : Bool) (m : ℕ) (e : ℤ) (n : ℕ) (d : ℤ) → depth e ≤ K → mul f (fin s m e) (fin false n d)
+    ≡ round f s (size-at K m e * (n * up d)) (2 ^ K * down d)
 mul-at f K s m e n d h =
     mul-is f s m e n d
-    ∙ round-same f s (m * up e * (n * up d)) (down e * down d) (size-at K m e * (n * up d)) (2 ^ K * down d) (mul-pos (down-pos e) (down-pos d)) (mul-pos (pow-pos K) (down-pos d))
+    ∙ round-same f s (m * up e * (n * up d)) (down e * down d) (size-at K m e * (n * up d)) (2 ^ K * down d) (mul-pos (down-pos e) (down-pos d))
+    (mul-pos (pow-pos K) (down-pos d))
     (rw (unit-split K e h) (simp (mul-assoc, mul-comm, mul-left-comm)))
 
 off-scale : (B X Y N : ℕ) (s t : Bool) → X < B → Y < B → off B s X ≤ off B t Y → off (suc (X * N + Y * N)) s (X * N) ≤ off (suc (X * N + Y * N)) t (Y * N)
@@ -187,7 +199,8 @@ off-scale B X Y N false true p q h =
     let y' : Y * N ≡ 0 = rw y (zero-mul N) in
     omega arith
 
-pub mul-mono-by : (f : Format) (x y : Float) (n : ℕ) (d : ℤ) → T (finite x) → T (finite y) → T (le x y) → T (le (mul f x (fin false n d)) (mul f y (fin false n d)))
+pub mul-mono-by : (f : Format) (x y : Float) (n : ℕ) (d : ℤ) → T (finite x) → T (finite y) → T (le x y)
+    → T (le (mul f x (fin false n d)) (mul f y (fin false n d)))
 mul-mono-by f (fin s m e) (fin t l g) n d p q h =
     let K = depth e + depth g in
     let X = size-at K m e in
@@ -196,4 +209,5 @@ mul-mono-by f (fin s m e) (fin t l g) n d p q h =
     let N = n * up d in
     let k = le→key K B (fin s m e) (fin t l g) (omega arith) (omega arith) h in
     rw (mul-at f K s m e n d (omega arith), mul-at f K t l g n d (omega arith))
-    (round-signed f (suc (X * N + Y * N)) (2 ^ K * down d) s t (X * N) (Y * N) (mul-pos (pow-pos K) (down-pos d)) (omega arith) (omega arith) (off-scale B X Y N s t (omega arith) (omega arith) k))
+    (round-signed f (suc (X * N + Y * N)) (2 ^ K * down d) s t (X * N) (Y * N) (mul-pos (pow-pos K) (down-pos d)) (omega arith) (omega arith)
+    (off-scale B X Y N s t (omega arith) (omega arith) k))

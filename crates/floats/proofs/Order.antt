@@ -4,7 +4,8 @@
 use mathlib.Core.Path.{_≡_, refl, sym, ap, ap₂, _∙_}
 use mathlib.Core.Logic.{_⊎_, inl, inr, _≢_}
 use Prim.Native.Nat.{ℕ, suc, _+_, _-_, _*_, _^_, _≤_, _<_}
-use native.Mathlib.Nat.{le-of-lt, le-of-eq, le-refl, mul-comm, mul-assoc, mul-left-comm, mul-lt-mul-of-pos-right, lt-of-mul-lt-mul-right, eq-of-mul-eq-mul-right, add-sub-of-le, add-mul, zero-mul, eq-or-lt-of-le}
+use native.Mathlib.Nat.{le-of-lt, le-of-eq, le-refl, mul-comm, mul-assoc, mul-left-comm, mul-lt-mul-of-pos-right, lt-of-mul-lt-mul-right}
+use native.Mathlib.Nat.{eq-of-mul-eq-mul-right, add-sub-of-le, add-mul, zero-mul, eq-or-lt-of-le}
 use native.Mathlib.Omega.{arith}
 use mathlib.Core.Bool.{Bool, true, false, not, _||_, Bool·beq}
 use lib.IntN.{ℤ, pos, negsuc}
@@ -115,10 +116,14 @@ module _ (a b x y : ℕ) (r : Ratio a b x y) where
   eq← h = eq-over x y a b (r .d) (r .c) (r .C) (sym (r .p)) (sym (r .q)) h
 
   none→ : a + b ≡ 0 → x + y ≡ 0
-  none→ h = eq-of-mul-eq-mul-right (r .d) (r .D) (x + y) 0 (add-mul x y (r .d) ∙ ap₂ (λ (u v : ℕ). u + v) (sym (r .p)) (sym (r .q)) ∙ sym (add-mul a b (r .c)) ∙ ap (λ (z : ℕ). z * r .c) h ∙ zero-mul (r .c) ∙ sym (zero-mul (r .d)))
+  none→ h =
+      eq-of-mul-eq-mul-right (r .d) (r .D) (x + y) 0 (add-mul x y (r .d) ∙ ap₂ (λ (u v : ℕ). u + v) (sym (r .p)) (sym (r .q)) ∙ sym (add-mul a b (r .c))
+      ∙ ap (λ (z : ℕ). z * r .c) h ∙ zero-mul (r .c) ∙ sym (zero-mul (r .d)))
 
   none← : x + y ≡ 0 → a + b ≡ 0
-  none← h = eq-of-mul-eq-mul-right (r .c) (r .C) (a + b) 0 (add-mul a b (r .c) ∙ ap₂ (λ (u v : ℕ). u + v) (r .p) (r .q) ∙ sym (add-mul x y (r .d)) ∙ ap (λ (z : ℕ). z * r .d) h ∙ zero-mul (r .d) ∙ sym (zero-mul (r .c)))
+  none← h =
+      eq-of-mul-eq-mul-right (r .c) (r .C) (a + b) 0 (add-mul a b (r .c) ∙ ap₂ (λ (u v : ℕ). u + v) (r .p) (r .q) ∙ sym (add-mul x y (r .d))
+      ∙ ap (λ (z : ℕ). z * r .d) h ∙ zero-mul (r .d) ∙ sym (zero-mul (r .c)))
 
   below→ : (B : ℕ) (s t : Bool) → x < B → y < B → T (below s a t b) → off B s x < off B t y
   below→ B false false X Y h = let k = lt→ (ltb→lt a b h) in omega arith
@@ -173,7 +178,8 @@ module _ (K B : ℕ) where
   lt→key (fin s m e) (inf true) p q h = absurd h
   lt→key (fin true m e) (inf false) p q h = omega arith
   lt→key (fin false m e) (inf false) p q h = omega arith
-  lt→key (fin s m e) (fin t n d) p q h = below→ (m * up e * down d) (n * up d * down e) (size-at K m e) (size-at K n d) (ratio m e n d K (p .0) (q .0)) B s t (p .1) (q .1) h
+  lt→key (fin s m e) (fin t n d) p q h =
+      below→ (m * up e * down d) (n * up d * down e) (size-at K m e) (size-at K n d) (ratio m e n d K (p .0) (q .0)) B s t (p .1) (q .1) h
 
   pub key→lt : (x y : Float) → Serves K B x → Serves K B y → key K B x < key K B y → T (lt x y)
   unfolding lt
@@ -191,7 +197,8 @@ module _ (K B : ℕ) where
   key→lt (fin true m e) (inf true) p q h = omega arith
   key→lt (fin false m e) (inf true) p q h = omega arith
   key→lt (fin s m e) (inf false) p q h = tt
-  key→lt (fin s m e) (fin t n d) p q h = below← (m * up e * down d) (n * up d * down e) (size-at K m e) (size-at K n d) (ratio m e n d K (p .0) (q .0)) B s t (p .1) (q .1) h
+  key→lt (fin s m e) (fin t n d) p q h =
+      below← (m * up e * down d) (n * up d * down e) (size-at K m e) (size-at K n d) (ratio m e n d K (p .0) (q .0)) B s t (p .1) (q .1) h
 
   pub eq→key : (x y : Float) → Serves K B x → Serves K B y → T (eq x y) → key K B x ≡ key K B y
   unfolding eq
@@ -204,7 +211,8 @@ module _ (K B : ℕ) where
   eq→key (inf s) (fin t n d) p q h = absurd h
   eq→key (fin s m e) nan p q h = absurd q
   eq→key (fin s m e) (inf t) p q h = absurd h
-  eq→key (fin s m e) (fin t n d) p q h = level→ (m * up e * down d) (n * up d * down e) (size-at K m e) (size-at K n d) (ratio m e n d K (p .0) (q .0)) B s t (p .1) (q .1) h
+  eq→key (fin s m e) (fin t n d) p q h =
+      level→ (m * up e * down d) (n * up d * down e) (size-at K m e) (size-at K n d) (ratio m e n d K (p .0) (q .0)) B s t (p .1) (q .1) h
 
   pub key→eq : (x y : Float) → Serves K B x → Serves K B y → key K B x ≡ key K B y → T (eq x y)
   unfolding eq
@@ -223,7 +231,8 @@ module _ (K B : ℕ) where
   key→eq (fin false m e) (inf true) p q h = omega arith
   key→eq (fin true m e) (inf false) p q h = omega arith
   key→eq (fin false m e) (inf false) p q h = omega arith
-  key→eq (fin s m e) (fin t n d) p q h = level← (m * up e * down d) (n * up d * down e) (size-at K m e) (size-at K n d) (ratio m e n d K (p .0) (q .0)) B s t (p .1) (q .1) h
+  key→eq (fin s m e) (fin t n d) p q h =
+      level← (m * up e * down d) (n * up d * down e) (size-at K m e) (size-at K n d) (ratio m e n d K (p .0) (q .0)) B s t (p .1) (q .1) h
 
   pub le→key : (x y : Float) → Serves K B x → Serves K B y → T (le x y) → key K B x ≤ key K B y
   unfolding le
@@ -409,7 +418,8 @@ unfolding eq
 zeros-equal s t e d =
     let a = 0 * up e * down d in
     let b = 0 * up d * down e in
-    and-i (eqb a b) (Bool·beq s t || eqb a 0) (eq→eqb (zero-times (up e) (down d) ∙ sym (zero-times (up d) (down e)))) (or-r (Bool·beq s t) (eqb a 0) (eq→eqb (zero-times (up e) (down d))))
+    and-i (eqb a b) (Bool·beq s t || eqb a 0) (eq→eqb (zero-times (up e) (down d) ∙ sym (zero-times (up d) (down e))))
+    (or-r (Bool·beq s t) (eqb a 0) (eq→eqb (zero-times (up e) (down d))))
 
 -- ---- finite values
 pub finite-real : (x : Float) → T (finite x) → T (not (isNan x))

@@ -77,10 +77,13 @@ module _ (x : Float) (u : T (inUnit x)) where
 
   pub plus-low : T (le oneHalf (add binary32 (mul binary32 x c255) oneHalf))
   plus-low =
-      subst (λ (w : Float). T (le w z)) half-of-nought (add-mono binary32 nought y oneHalf oneHalf tt times-finite tt tt times-low (le-refl-float oneHalf half-real))
+      subst (λ (w : Float). T (le w z)) half-of-nought
+      (add-mono binary32 nought y oneHalf oneHalf tt times-finite tt tt times-low (le-refl-float oneHalf half-real))
 
   pub plus-high : T (le (add binary32 (mul binary32 x c255) oneHalf) top)
-  plus-high = subst (λ (w : Float). T (le z w)) half-of-255 (add-mono binary32 y c255 oneHalf oneHalf times-finite tt tt tt times-high (le-refl-float oneHalf half-real))
+  plus-high =
+      subst (λ (w : Float). T (le z w)) half-of-255
+      (add-mono binary32 y c255 oneHalf oneHalf times-finite tt tt tt times-high (le-refl-float oneHalf half-real))
 
   pub plus-from-0 : T (le nought (add binary32 (mul binary32 x c255) oneHalf))
   plus-from-0 = le-le nought oneHalf z nought-to-half plus-low

@@ -1,4 +1,5 @@
--- The plain and the lane index of a fraction that is an f32 agree but at the bits 3B008080. Both keep the order, so where they agree at both ends of a stretch of bit
+-- The plain and the lane index of a fraction that is an f32 agree but at the bits 3B008080. Both keep the order, so where they agree at both ends of a stretch
+-- of bit
 -- patterns they agree inside; one closed computation over 254 stretches decides it. Assumes nothing.
 use mathlib.Core.Path.{_≡_, refl, sym, ap, _∙_, subst}
 use mathlib.Core.Logic.{_⊎_, inl, inr, _≢_}
@@ -48,11 +49,13 @@ at→ p l x t =
       lane = eqb→eq (laneIndex x) l (and-r D E t₃);
     }
 
-plain-mono : (x y : Float) → T (finite (mul binary32 x c255)) → T (finite (mul binary32 y c255)) → T (le (mul binary32 x c255) (mul binary32 y c255)) → plainIndex x ≤ plainIndex y
+plain-mono : (x y : Float) → T (finite (mul binary32 x c255)) → T (finite (mul binary32 y c255)) → T (le (mul binary32 x c255) (mul binary32 y c255))
+    → plainIndex x ≤ plainIndex y
 unfolding plainIndex
 plain-mono x y p q h = half-mono (mul binary32 x c255) (mul binary32 y c255) p q h
 
-lane-mono : (x y : Float) → T (finite (add binary32 (mul binary32 x c255) oneHalf)) → T (finite (add binary32 (mul binary32 y c255) oneHalf)) → T (le (add binary32 (mul binary32 x c255) oneHalf) (add binary32 (mul binary32 y c255) oneHalf)) → laneIndex x ≤ laneIndex y
+lane-mono : (x y : Float) → T (finite (add binary32 (mul binary32 x c255) oneHalf)) → T (finite (add binary32 (mul binary32 y c255) oneHalf))
+    → T (le (add binary32 (mul binary32 x c255) oneHalf) (add binary32 (mul binary32 y c255) oneHalf)) → laneIndex x ≤ laneIndex y
 unfolding laneIndex
 lane-mono x y p q h = let k = floor-mono (add binary32 (mul binary32 x c255) oneHalf) (add binary32 (mul binary32 y c255) oneHalf) p q h in omega arith
 
@@ -67,8 +70,10 @@ stretch p l lo x hi a b h k =
     let h₁ : T (le yl y) = mul-mono-by binary32 lo x 255 (pos 0) (A .own) X h in
     let k₁ : T (le y yh) = mul-mono-by binary32 x hi 255 (pos 0) X (B .own) k in
     let Y = between yl y yh (A .times) (B .times) h₁ k₁ in
-    let h₂ : T (le (add binary32 yl oneHalf) (add binary32 y oneHalf)) = add-mono binary32 yl y oneHalf oneHalf (A .times) Y tt tt h₁ (le-refl-float oneHalf half-real) in
-    let k₂ : T (le (add binary32 y oneHalf) (add binary32 yh oneHalf)) = add-mono binary32 y yh oneHalf oneHalf Y (B .times) tt tt k₁ (le-refl-float oneHalf half-real) in
+    let h₂ : T (le (add binary32 yl oneHalf) (add binary32 y oneHalf)) = add-mono binary32 yl y oneHalf oneHalf (A .times) Y tt tt h₁
+    (le-refl-float oneHalf half-real) in
+    let k₂ : T (le (add binary32 y oneHalf) (add binary32 yh oneHalf)) = add-mono binary32 y yh oneHalf oneHalf Y (B .times) tt tt k₁
+    (le-refl-float oneHalf half-real) in
     let Z = between (add binary32 yl oneHalf) (add binary32 y oneHalf) (add binary32 yh oneHalf) (A .plus) (B .plus) h₂ k₂ in (
       le-antisymm (le-trans (plain-mono x hi Y (B .times) k₁) (le-of-eq (B .plain))) (le-trans (le-of-eq (sym (A .plain))) (plain-mono lo x (A .times) Y h₁)),
       le-antisymm (le-trans (lane-mono x hi Z (B .plus) k₂) (le-of-eq (B .lane))) (le-trans (le-of-eq (sym (A .lane))) (lane-mono lo x (A .plus) Z h₂)),
@@ -85,9 +90,11 @@ abbrev sweep : ℕ → ℕ → ℕ → Bool
 sweep zero i lo = at i i (ofBits binary32 lo) && at i i one
 sweep (suc n) i lo = let hi = last i in (at i i (ofBits binary32 lo) && (at i i (ofBits binary32 hi) && gap hi)) && sweep n (suc i) (suc hi)
 
-sweep-sound : (n i lo : ℕ) → T (sweep n i lo) → (x : Float) → T (fits binary32 x) → T (finite x) → T (le (ofBits binary32 lo) x) → T (le x one) → plainIndex x ≡ laneIndex x
+sweep-sound : (n i lo : ℕ) → T (sweep n i lo) → (x : Float) → T (fits binary32 x) → T (finite x) → T (le (ofBits binary32 lo) x) → T (le x one) → plainIndex x
+    ≡ laneIndex x
 sweep-sound zero i lo t x f v h k =
-    let r = stretch i i (ofBits binary32 lo) x one (and-l (at i i (ofBits binary32 lo)) (at i i one) t) (and-r (at i i (ofBits binary32 lo)) (at i i one) t) h k in
+    let r = stretch i i (ofBits binary32 lo) x one (and-l (at i i (ofBits binary32 lo)) (at i i one) t) (and-r (at i i (ofBits binary32 lo)) (at i i one) t) h
+    k in
     r .0 ∙ sym (r .1)
 sweep-sound (suc n) i lo t x f v h k =
     let hi = last i in

@@ -2,7 +2,9 @@
 use mathlib.Core.Path.{_≡_, refl, sym, ap, ap₂, _∙_, subst}
 use mathlib.Core.Logic.{_⊎_, inl, inr}
 use Prim.Native.Nat.{ℕ, zero, suc, _+_, _-_, _*_, _/_, _%_, _^_, _≤_, _<_, zero-le, compare, Ordering, Ordering·lt, Ordering·eq, Ordering·gt}
-use native.Mathlib.Nat.{le-of-eq, le-of-lt, le-trans, le-refl, lt-of-lt-of-le, lt-of-le-of-lt, lt-irrefl, mul-comm, mul-assoc, mul-left-comm, mul-right-comm, mul-one, mul-pos, mul-sub, mul-le-mul-right, mul-mod-left, mod-lt, div-add-mod', div-div-eq-div-mul, le-div-iff-mul-le, suc-mul, pow-suc, eq-or-lt-of-le, mul-lt-mul-of-pos-right, eq-of-mul-eq-mul-right}
+use native.Mathlib.Nat.{le-of-eq, le-of-lt, le-trans, le-refl, lt-of-lt-of-le, lt-of-le-of-lt, lt-irrefl, mul-comm, mul-assoc, mul-left-comm, mul-right-comm}
+use native.Mathlib.Nat.{mul-one, mul-pos, mul-sub, mul-le-mul-right, mul-mod-left, mod-lt, div-add-mod', div-div-eq-div-mul, le-div-iff-mul-le, suc-mul}
+use native.Mathlib.Nat.{pow-suc, eq-or-lt-of-le, mul-lt-mul-of-pos-right, eq-of-mul-eq-mul-right}
 use native.Mathlib.Omega.{arith}
 use mathlib.Core.Bool.{Bool, true, false, not}
 use lib.Dec.{T, isLe, isEq, eqb, eqb→eq, eqb-refl, leb→le, nleb→lt}

@@ -38,7 +38,8 @@ is-odd f s m e t =
 one-way : (m n : ℕ) (e d : ℤ) → m % 2 ≡ 1 → n % 2 ≡ 1 → m * up e * down d ≡ n * up d * down e → (m ≡ n) × (e ≡ d)
 one-way m n (pos a) (pos b) o p h = let r = odd-pow m n a b o p (sym (mul-one (m * 2 ^ a)) ∙ h ∙ mul-one (n * 2 ^ b)) in (r .0, ap pos (r .1))
 one-way m n (negsuc a) (negsuc b) o p h =
-    let r = odd-pow m n (suc b) (suc a) o p (sym (ap (λ (z : ℕ). z * 2 ^ suc b) (mul-one m)) ∙ h ∙ ap (λ (z : ℕ). z * 2 ^ suc a) (mul-one n)) in (r .0, ap negsuc (sym (down-one b a (r .1))))
+    let r = odd-pow m n (suc b) (suc a) o p (sym (ap (λ (z : ℕ). z * 2 ^ suc b) (mul-one m)) ∙ h ∙ ap (λ (z : ℕ). z * 2 ^ suc a) (mul-one n)) in
+    (r .0, ap negsuc (sym (down-one b a (r .1))))
   where
     down-one : (b a : ℕ) → suc b ≡ suc a → b ≡ a
     down-one b a h = omega arith
@@ -59,7 +60,8 @@ above : (n : ℕ) (u v : ℕ) → 0 < u → 0 < v → suc n * u * v ≢ 0
 above n u v up' vp z = let h : 0 < suc n * u * v = mul-pos (mul-pos (zero-lt-suc n) up') vp in omega arith
 
 -- ---- values that fit and are equal, and not zero, are the same
-pub eq→same : (f : Format) (x : Float) (t : Bool) (n : ℕ) (d : ℤ) → T (fits f x) → T (fits f (fin t (suc n) d)) → T (eq x (fin t (suc n) d)) → x ≡ fin t (suc n) d
+pub eq→same : (f : Format) (x : Float) (t : Bool) (n : ℕ) (d : ℤ) → T (fits f x) → T (fits f (fin t (suc n) d)) → T (eq x (fin t (suc n) d)) → x
+    ≡ fin t (suc n) d
 unfolding eq
 eq→same f nan t n d p q h = absurd h
 eq→same f (inf s) t n d p q h = absurd h

@@ -18,7 +18,8 @@ sums f true a true b c = (true, a + b, record { exact = omega arith; zero = λ (
 sums f false a false b c = (false, a + b, record { exact = omega arith; zero = λ (z : a + b ≡ 0). refl }, refl)
 sums f true a false b c = go (ltb a b) (ltb b a) (ltb→lt a b) (nltb→le a b) (ltb→lt b a) (nltb→le b a)
   where
-    go : (g h : Bool) → (T g → a < b) → (T (not g) → b ≤ a) → (T h → b < a) → (T (not h) → a ≤ b) → Rounded f (cond g (round f false (b - a) c) (round f h (a - b) c)) true a false b c
+    go : (g h : Bool) → (T g → a < b) → (T (not g) → b ≤ a) → (T h → b < a) → (T (not h) → a ≤ b)
+        → Rounded f (cond g (round f false (b - a) c) (round f h (a - b) c)) true a false b c
     go true h p q u v = let k = p tt in (false, b - a, record { exact = omega arith; zero = λ (z : b - a ≡ 0). refl }, refl)
     go false true p q u v = let k = u tt in (true, a - b, record { exact = omega arith; zero = λ (z : a - b ≡ 0). absurd (omega arith) }, refl)
     go false false p q u v = let k = v tt in let l = q tt in (false, a - b, record { exact = omega arith; zero = λ (z : a - b ≡ 0). refl }, refl)
@@ -28,6 +29,7 @@ sums f false a true b c = go (ltb a b) (ltb→lt a b) (nltb→le a b)
     go true p q = let k = p tt in (true, b - a, record { exact = omega arith; zero = λ (z : b - a ≡ 0). absurd (omega arith) }, refl)
     go false p q = let k = q tt in (false, a - b, record { exact = omega arith; zero = λ (z : a - b ≡ 0). refl }, refl)
 
-pub add-is : (f : Format) (s : Bool) (m : ℕ) (e : ℤ) (t : Bool) (n : ℕ) (d : ℤ) → add f (fin s m e) (fin t n d) ≡ sum f s (m * up e * down d) t (n * up d * down e) (down e * down d)
+pub add-is : (f : Format) (s : Bool) (m : ℕ) (e : ℤ) (t : Bool) (n : ℕ) (d : ℤ) → add f (fin s m e) (fin t n d) ≡ sum f s (m * up e * down d) t
+    (n * up d * down e) (down e * down d)
 unfolding add
 add-is f s m e t n d = refl

@@ -3,7 +3,8 @@
 use mathlib.Core.Path.{_≡_, refl, sym, ap, _∙_, subst, subst₂}
 use mathlib.Core.Logic.{_⊎_, inl, inr}
 use Prim.Native.Nat.{ℕ, zero, suc, _+_, _-_, _*_, _%_, _^_, _≤_, _<_, zero-le}
-use native.Mathlib.Nat.{le-of-eq, le-trans, le-refl, le-antisymm, lt-of-le-of-lt, not-le-of-lt, mul-comm, mul-assoc, mul-one, mul-le-mul-right, mul-lt-mul-of-pos-right, eq-of-mul-eq-mul-right, eq-or-lt-of-le, pow-suc, pow-succ', mul-pos, zero-lt-suc}
+use native.Mathlib.Nat.{le-of-eq, le-trans, le-refl, le-antisymm, lt-of-le-of-lt, not-le-of-lt, mul-comm, mul-assoc, mul-one, mul-le-mul-right}
+use native.Mathlib.Nat.{mul-lt-mul-of-pos-right, eq-of-mul-eq-mul-right, eq-or-lt-of-le, pow-suc, pow-succ', mul-pos, zero-lt-suc}
 use native.Mathlib.Omega.{arith}
 use mathlib.Core.Bool.{Bool, true, false, _&&_}
 use lib.Dec.{T}

@@ -1,4 +1,5 @@
--- The ramp's entry number for a fraction from 0 to 1 (docs/RULES.md, "Colours and ramps"): fraction × 255 in f32; plainly the nearest whole number to that, halves up;
+-- The ramp's entry number for a fraction from 0 to 1 (docs/RULES.md, "Colours and ramps"): fraction × 255 in f32; plainly the nearest whole number to that,
+-- halves up;
 -- in lanes the floor of that plus 0.5, the sum rounded to f32, at most 255. Definitions only.
 use Prim.Native.Nat.{ℕ, _+_, _*_, _/_, min}
 use mathlib.Core.Bool.{Bool, true, false, _&&_}

@@ -1,4 +1,5 @@
--- What each kind of legend is painted by: its two rules, for a nodata value (docs/RULES.md, "Samples and settings", "Linear", "Banded", "Categoric"). Definitions only.
+-- What each kind of legend is painted by: its two rules, for a nodata value (docs/RULES.md, "Samples and settings", "Linear", "Banded", "Categoric").
+-- Definitions only.
 use Prim.Native.Nat.{ℕ}
 use mathlib.Core.Bool.{Bool, true}
 use mathlib.Core.List.{List}

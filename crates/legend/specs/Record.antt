@@ -1,4 +1,5 @@
--- A legend: its kind beside the three records, of which that of its kind alone counts, and its settings (docs/RULES.md, "Where each call says no"). Definitions only.
+-- A legend: its kind beside the three records, of which that of its kind alone counts, and its settings (docs/RULES.md, "Where each call says no"). Definitions
+-- only.
 use mathlib.Core.Bool.{Bool, true}
 use mathlib.Core.List.{[]}
 use lib.Dec.{ltb}
@@ -24,7 +25,8 @@ abbrev pub bandedLegend : Banded → MappingConfig → Legend
 bandedLegend banded config = record { kind = kind.Banded; linear = emptyLinear; banded = banded; categoric = emptyCategoric; «mapping_config» = config }
 
 abbrev pub categoricLegend : CategoricNumeric → MappingConfig → Legend
-categoricLegend categoric config = record { kind = kind.CategoricNumeric; linear = emptyLinear; banded = bandedOf []; categoric = categoric; «mapping_config» = config }
+categoricLegend categoric config =
+    record { kind = kind.CategoricNumeric; linear = emptyLinear; banded = bandedOf []; categoric = categoric; «mapping_config» = config }
 
 abbrev pub emptyLegend : Legend
 emptyLegend = linearLegend emptyLinear noSettings

@@ -1,4 +1,4 @@
--- What holds of a legend's head and its lent arrays holds of the legend. Assumes nothing.
+-- What holds of a legend's view and its borrowed arrays holds of the legend. Assumes nothing.
 use mathlib.Core.Path.{_≡_, sym, ap, subst}
 use mathlib.Core.List.{List}
 use Prim.Native.Nat.{ℕ}
@@ -18,15 +18,20 @@ module _ (l : Legend) (nodata : Nodata) {h : View} (e : h ≡ viewOf l) where
   abbrev again : View → Legend
   again x = borrowedLegend x (l .linear .cmap) (l .categoric .keys) (l .categoric .colors) (l .categoric .lookup)
 
-  pub plainly : {xs : List Float} {out out' : List ℕ} {answer : Answer} → PlainPainting (painter (again h) nodata) xs out answer out' → PlainPainting (painter l nodata) xs out answer out'
+  pub plainly : {xs : List Float} {out out' : List ℕ} {answer : Answer} → PlainPainting (painter (again h) nodata) xs out answer out'
+      → PlainPainting (painter l nodata) xs out answer out'
   plainly {xs} {out} {out'} {answer} = subst (λ (x : View). PlainPainting (painter (again x) nodata) xs out answer out') e
 
-  pub in-lanes : {L : ℕ} {xs : List Float} {out scratch out' scratch' : List ℕ} {answer : Answer} → LanePainting (painter (again h) nodata) L xs out scratch answer out' scratch'
+  pub in-lanes : {L : ℕ} {xs : List Float} {out scratch out' scratch' : List ℕ} {answer : Answer} → LanePainting (painter (again h) nodata) L xs out scratch
+      answer out' scratch'
       → LanePainting (painter l nodata) L xs out scratch answer out' scratch'
-  in-lanes {L} {xs} {out} {scratch} {out'} {scratch'} {answer} = subst (λ (x : View). LanePainting (painter (again x) nodata) L xs out scratch answer out' scratch') e
+  in-lanes {L} {xs} {out} {scratch} {out'} {scratch'} {answer} =
+      subst (λ (x : View). LanePainting (painter (again x) nodata) L xs out scratch answer out' scratch') e
 
   pub rules : (xs : List Float) → plainPainted (painter (again h) nodata .plain) xs ≡ plainPainted (painter l nodata .plain) xs
   rules xs = ap (λ (x : View). plainPainted (painter (again x) nodata .plain) xs) e
 
-pub stored : (l : Legend) {h : View} → h ≡ viewOf l → storedRefusal l ≡ Done → storedRefusal (borrowedLegend h (l .linear .cmap) (l .categoric .keys) (l .categoric .colors) (l .categoric .lookup)) ≡ Done
-stored l e = subst (λ (x : View). storedRefusal (borrowedLegend x (l .linear .cmap) (l .categoric .keys) (l .categoric .colors) (l .categoric .lookup)) ≡ Done) (sym e)
+pub stored : (l : Legend) {h : View} → h ≡ viewOf l → storedRefusal l ≡ Done
+    → storedRefusal (borrowedLegend h (l .linear .cmap) (l .categoric .keys) (l .categoric .colors) (l .categoric .lookup)) ≡ Done
+stored l e =
+    subst (λ (x : View). storedRefusal (borrowedLegend x (l .linear .cmap) (l .categoric .keys) (l .categoric .colors) (l .categoric .lookup)) ≡ Done) (sym e)

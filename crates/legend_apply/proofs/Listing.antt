@@ -25,12 +25,15 @@ unfolding ofBits ofInt
 last = refl
 
 pub value-is : (range : ValueRange) (i : ℕ)
-    → add binary32 (range .start) (mul binary32 (sub binary32 (range .end) (range .start)) (div binary32 (ofInt binary32 (pos i)) (ofBits binary32 0x437F_0000))) ≡ valueAt range i
+    → add binary32 (range .start)
+    (mul binary32 (sub binary32 (range .end) (range .start)) (div binary32 (ofInt binary32 (pos i)) (ofBits binary32 0x437F_0000))) ≡ valueAt range i
 unfolding valueAt
-value-is range i = ap (λ (d : Float). add binary32 (range .start) (mul binary32 (sub binary32 (range .end) (range .start)) (div binary32 (ofInt binary32 (pos i)) d))) last
+value-is range i =
+    ap (λ (d : Float). add binary32 (range .start) (mul binary32 (sub binary32 (range .end) (range .start)) (div binary32 (ofInt binary32 (pos i)) d))) last
 
 module _ (l : Legend) {a : Answer} (e : a ≡ totalRangeRefusal l) where
-  both : {words : List ℕ} → words ≡ ifDone (totalRangeRefusal l) (listColors l) (replicate 256 0) → _≡_ {A = ColorList} (record { answer = a; colors = words }) (colorList l)
+  both : {words : List ℕ} → words ≡ ifDone (totalRangeRefusal l) (listColors l) (replicate 256 0) → _≡_ {A =
+      ColorList} (record { answer = a; colors = words }) (colorList l)
   unfolding colorList
   both {words} w = ap (λ (x : Answer). record { answer = x; colors = words }) e ∙ ap (λ (ws : List ℕ). record { answer = totalRangeRefusal l; colors = ws }) w
 
@@ -40,4 +43,6 @@ module _ (l : Legend) {a : Answer} (e : a ≡ totalRangeRefusal l) where
   pub list-done : {range : ValueRange} {values : List Float} {words : List ℕ} → a ≡ Done → range ≡ rangeIn (l .kind) l → values ≡ tabulate 256 (valueAt range)
       → words ≡ map (painter l Absent .plain) values → _≡_ {A = ColorList} (record { answer = a; colors = words }) (colorList l)
   unfolding listColors
-  list-done h r v w = both (w ∙ ap (map (painter l Absent .plain)) (v ∙ ap (λ (x : ValueRange). tabulate 256 (valueAt x)) r) ∙ sym (when-done (listColors l) (replicate 256 0) (sym e ∙ h)))
+  list-done h r v w =
+      both (w ∙ ap (map (painter l Absent .plain)) (v ∙ ap (λ (x : ValueRange). tabulate 256 (valueAt x)) r)
+      ∙ sym (when-done (listColors l) (replicate 256 0) (sym e ∙ h)))

@@ -15,7 +15,8 @@ use Rattle.legend_apply.specs.declared.ColorList.{ColorList}
 
 -- the value at a position i of 256: start + (end - start) × (i / 255)
 unfoldable pub valueAt : ValueRange → (i : ℕ) → Float
-valueAt range i = add binary32 (range .start) (mul binary32 (sub binary32 (range .end) (range .start)) (div binary32 (ofInt binary32 (pos i)) (ofInt binary32 (pos 255))))
+valueAt range i =
+    add binary32 (range .start) (mul binary32 (sub binary32 (range .end) (range .start)) (div binary32 (ofInt binary32 (pos i)) (ofInt binary32 (pos 255))))
 
 -- without nodata value
 unfoldable pub listColors : Legend → List ℕ

@@ -39,7 +39,8 @@ pub fn apply_to_data_kernel(
     out: &mut [u32],
     scratch: &mut [u32],
 ) -> Answer
-    ensures { λ r. ⌜ LanePainting (painter legend nodata) lanes (now (src .entry)) (now (out .entry)) (now (scratch .entry)) r (now (out .exit)) (now (scratch .exit)) ⌝ }
+    ensures { λ r. ⌜ LanePainting (painter legend nodata) lanes (now (src .entry)) (now (out .entry)) (now (scratch .entry)) r (now (out .exit))
+        (now (scratch .exit)) ⌝ }
 {
     let linear = legend.linear;
     let categoric = legend.categoric;

@@ -53,5 +53,6 @@ module _ (l : Legend) (nodata : Nodata) {xs : List Float} {out scratch : List �
       record {
         answered = asked l nodata L (length scratch) n (length out) stored d ∙ ap (λ (t : ℕ). laneRefusal (p .stored) L (length scratch) t (length out)) m;
         output = w ∙ sym (painted-lanes p L xs (λ (z : L ≡ 0). omega (arith, sizes .0, z))) ∙ sym (when-done whole out e);
-        scratch-after = k ∙ ap (λ (b : Bool). cond b (scratchAfter L out' scratch) scratch) (supported ∙ sym (simd-is l nodata)) ∙ sym (when-done kept scratch e);
+        scratch-after = k ∙ ap (λ (b : Bool). cond b (scratchAfter L out' scratch) scratch) (supported ∙ sym (simd-is l nodata))
+            ∙ sym (when-done kept scratch e);
       }

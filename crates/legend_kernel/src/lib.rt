@@ -1,4 +1,4 @@
-// Painting rasters in lanes by a legend whose arrays are lent (docs/RULES.md, "Painting"). Samples are f32, u8 or i16.
+// Painting rasters in lanes by a legend whose arrays are borrowed (docs/RULES.md, "Painting"). Samples are f32, u8 or i16.
 use cast::Nodata;
 use legend_view::View;
 use refusal::Answer;
@@ -25,7 +25,8 @@ pub fn apply_to_data_kernel(
     out: &mut [u32],
     scratch: &mut [u32],
 ) -> Answer
-    ensures { λ r. ⌜ LanePainting (painter (borrowedLegend view (now (cmap .entry)) (now (keys .entry)) (now (colors .entry)) (now (lookup .entry))) nodata) lanes (now (src .entry)) (now (out .entry)) (now (scratch .entry)) r (now (out .exit)) (now (scratch .exit)) ⌝ }
+    ensures { λ r. ⌜ LanePainting (painter (borrowedLegend view (now (cmap .entry)) (now (keys .entry)) (now (colors .entry)) (now (lookup .entry))) nodata)
+        lanes (now (src .entry)) (now (out .entry)) (now (scratch .entry)) r (now (out .exit)) (now (scratch .exit)) ⌝ }
 {
     let answer = painting::lane_refusal(
         view.stored_refusal(),
@@ -55,7 +56,8 @@ pub fn apply_to_data_kernel_u8(
     out: &mut [u32],
     scratch: &mut [u32],
 ) -> Answer
-    ensures { λ r. ⌜ LanePainting (painter (borrowedLegend view (now (cmap .entry)) (now (keys .entry)) (now (colors .entry)) (now (lookup .entry))) nodata) lanes (map ofU8 (now (src .entry))) (now (out .entry)) (now (scratch .entry)) r (now (out .exit)) (now (scratch .exit)) ⌝ }
+    ensures { λ r. ⌜ LanePainting (painter (borrowedLegend view (now (cmap .entry)) (now (keys .entry)) (now (colors .entry)) (now (lookup .entry))) nodata)
+        lanes (map ofU8 (now (src .entry))) (now (out .entry)) (now (scratch .entry)) r (now (out .exit)) (now (scratch .exit)) ⌝ }
 {
     let answer = painting::lane_refusal(
         view.stored_refusal(),
@@ -85,7 +87,8 @@ pub fn apply_to_data_kernel_i16(
     out: &mut [u32],
     scratch: &mut [u32],
 ) -> Answer
-    ensures { λ r. ⌜ LanePainting (painter (borrowedLegend view (now (cmap .entry)) (now (keys .entry)) (now (colors .entry)) (now (lookup .entry))) nodata) lanes (map ofI16 (now (src .entry))) (now (out .entry)) (now (scratch .entry)) r (now (out .exit)) (now (scratch .exit)) ⌝ }
+    ensures { λ r. ⌜ LanePainting (painter (borrowedLegend view (now (cmap .entry)) (now (keys .entry)) (now (colors .entry)) (now (lookup .entry))) nodata)
+        lanes (map ofI16 (now (src .entry))) (now (out .entry)) (now (scratch .entry)) r (now (out .exit)) (now (scratch .exit)) ⌝ }
 {
     let answer = painting::lane_refusal(
         view.stored_refusal(),

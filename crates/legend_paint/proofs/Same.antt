@@ -72,7 +72,8 @@ module _ (config : MappingConfig) (nodata : Nodata) where
 
     -- the bands, unpacked into three arrays
     module _ {starts ends : List Float} {colors : List ℕ} {p : BandedPaint} (h : b .count ≤ length (b .bands)) (paint : p ≡ bandedPaint b config nodata)
-        (e : starts ≡ map (λ (x : LegendBand). x .start) (b .bands)) (f : ends ≡ map (λ (x : LegendBand). x .end) (b .bands)) (g : colors ≡ map (λ (x : LegendBand). x .color) (b .bands)) where
+        (e : starts ≡ map (λ (x : LegendBand). x .start) (b .bands)) (f : ends ≡ map (λ (x : LegendBand). x .end) (b .bands))
+        (g : colors ≡ map (λ (x : LegendBand). x .color) (b .bands)) where
       counted-is : fromColumns starts ends colors (b .count) ≡ counted b
       unfolding fromColumns
       counted-is =
@@ -82,10 +83,14 @@ module _ (config : MappingConfig) (nodata : Nodata) where
           ∙ repacked (b .count) (b .bands) h
 
       pub bands-sample : bandedly.plainSample (fromColumns starts ends colors (p .count)) p ≡ bandedPainter b config nodata .plain
-      bands-sample = ap (λ (q : BandedPaint). bandedly.plainSample (fromColumns starts ends colors (q .count)) q) paint ∙ ap (λ (bs : List LegendBand). bandedly.plainSample bs (bandedPaint b config nodata)) counted-is ∙ banded-sample
+      bands-sample =
+          ap (λ (q : BandedPaint). bandedly.plainSample (fromColumns starts ends colors (q .count)) q) paint
+          ∙ ap (λ (bs : List LegendBand). bandedly.plainSample bs (bandedPaint b config nodata)) counted-is ∙ banded-sample
 
       pub bands-chunk : bandedly.laneChunk (fromColumns starts ends colors (p .count)) p ≡ bandedPainter b config nodata .chunk
-      bands-chunk = ap (λ (q : BandedPaint). bandedly.laneChunk (fromColumns starts ends colors (q .count)) q) paint ∙ ap (λ (bs : List LegendBand). bandedly.laneChunk bs (bandedPaint b config nodata)) counted-is ∙ banded-chunk
+      bands-chunk =
+          ap (λ (q : BandedPaint). bandedly.laneChunk (fromColumns starts ends colors (q .count)) q) paint
+          ∙ ap (λ (bs : List LegendBand). bandedly.laneChunk bs (bandedPaint b config nodata)) counted-is ∙ banded-chunk
 
   module _ (c : CategoricNumeric) where
     pub table-simd : 0 < c .«lookup_count» → categoricPainter c config nodata .simd ≡ true
@@ -96,7 +101,8 @@ module _ (config : MappingConfig) (nodata : Nodata) where
     unfolding categoricPainter
     keys-simd e = ap (ltb 0) e
 
-    pub table-sample : 0 < c .«lookup_count» → tableSample (c .lookup) (c .«lookup_count») (categoricPaint config nodata) ≡ categoricPainter c config nodata .plain
+    pub table-sample : 0 < c .«lookup_count» → tableSample (c .lookup) (c .«lookup_count») (categoricPaint config nodata)
+        ≡ categoricPainter c config nodata .plain
     unfolding categoricPainter
     table-sample h =
         ap₂ (λ t rule. maskedColor t (config .«nodata_color») rule) tested

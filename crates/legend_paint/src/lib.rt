@@ -121,7 +121,9 @@ fn paint_categoric(
     out: &mut [u32],
 )
     requires { ⌜ (count ≤ 256) × (size ≤ 513) × (plainOrLanes lanes ≡ true) × (length (now out) ≡ length (now src)) ⌝ }
-    ensures { λ _. ⌜ now (out .exit) ≡ painted (categoricPainter (borrowedCategoric (now (keys .entry)) (now (colors .entry)) count (now (lookup .entry)) size) config nodata) lanes (now (src .entry)) ⌝ }
+    ensures { λ _. ⌜ now (out .exit)
+        ≡ painted (categoricPainter (borrowedCategoric (now (keys .entry)) (now (colors .entry)) count (now (lookup .entry)) size) config nodata) lanes
+        (now (src .entry)) ⌝ }
 {
     let p = categoric_paint(config, nodata);
     if size == 0 {
@@ -149,7 +151,9 @@ pub fn paint(
     out: &mut [u32],
 )
     requires { ⌜ (storedRefusal (borrowedLegend view (now cmap) (now keys) (now colors) (now lookup)) ≡ Done) × (length (now out) ≡ length (now src)) ⌝ }
-    ensures { λ _. ⌜ now (out .exit) ≡ painted (painter (borrowedLegend view (now (cmap .entry)) (now (keys .entry)) (now (colors .entry)) (now (lookup .entry))) nodata) 0 (now (src .entry)) ⌝ }
+    ensures { λ _. ⌜ now (out .exit)
+        ≡ painted (painter (borrowedLegend view (now (cmap .entry)) (now (keys .entry)) (now (colors .entry)) (now (lookup .entry))) nodata) 0
+        (now (src .entry)) ⌝ }
 {
     let config = view.mapping_config;
     let kind = view.kind;
@@ -188,8 +192,11 @@ pub fn paint_simd(
     src: &[f32],
     out: &mut [u32],
 )
-    requires { ⌜ (storedRefusal (borrowedLegend view (now cmap) (now keys) (now colors) (now lookup)) ≡ Done) × (plainOrLanes l ≡ true) × (length (now out) ≡ length (now src)) ⌝ }
-    ensures { λ _. ⌜ now (out .exit) ≡ painted (painter (borrowedLegend view (now (cmap .entry)) (now (keys .entry)) (now (colors .entry)) (now (lookup .entry))) nodata) l (now (src .entry)) ⌝ }
+    requires { ⌜ (storedRefusal (borrowedLegend view (now cmap) (now keys) (now colors) (now lookup)) ≡ Done) × (plainOrLanes l ≡ true)
+        × (length (now out) ≡ length (now src)) ⌝ }
+    ensures { λ _. ⌜ now (out .exit)
+        ≡ painted (painter (borrowedLegend view (now (cmap .entry)) (now (keys .entry)) (now (colors .entry)) (now (lookup .entry))) nodata) l
+        (now (src .entry)) ⌝ }
 {
     let config = view.mapping_config;
     let kind = view.kind;

@@ -1,4 +1,4 @@
-// The colour of one sample by a legend whose arrays are lent (docs/RULES.md, "Samples and settings").
+// The colour of one sample by a legend whose arrays are borrowed (docs/RULES.md, "Samples and settings").
 use cast::Nodata;
 use legend_view::View;
 use refusal::Answer;
@@ -25,7 +25,8 @@ pub fn color_for_value(
     value: f32,
     nodata: Nodata,
 ) -> PixelColor
-    ensures { λ r. ⌜ r ≡ colorForValue (borrowedLegend view (now (cmap .entry)) (now (keys .entry)) (now (colors .entry)) (now (lookup .entry))) nodata value ⌝ }
+    ensures { λ r. ⌜ r ≡ colorForValue (borrowedLegend view (now (cmap .entry)) (now (keys .entry)) (now (colors .entry)) (now (lookup .entry)))
+        nodata value ⌝ }
 {
     match view.stored_refusal() {
         Answer::Refused(why) => PixelColor::Refused(why),
@@ -44,7 +45,8 @@ fn pixel(
     nodata: Nodata,
 ) -> u32
     requires { ⌜ storedRefusal (borrowedLegend view (now cmap) (now keys) (now colors) (now lookup)) ≡ Done ⌝ }
-    ensures { λ r. ⌜ r ≡ painter (borrowedLegend view (now (cmap .entry)) (now (keys .entry)) (now (colors .entry)) (now (lookup .entry))) nodata .plain value ⌝ }
+    ensures { λ r. ⌜ r ≡ painter (borrowedLegend view (now (cmap .entry)) (now (keys .entry)) (now (colors .entry)) (now (lookup .entry)))
+        nodata .plain value ⌝ }
 {
     let samples = [value; 1];
     let mut words = [0u32; 1];

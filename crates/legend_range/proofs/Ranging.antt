@@ -42,7 +42,8 @@ pub bands-none : {n : ℕ} (xs : List LegendBand) → n ≡ 0 → fromTo (ofBits
 unfolding bandsRange
 bands-none xs e = nothing ∙ sym (ap (λ (k : ℕ). bandsRange (take k xs)) e)
 
-pub bands-from-to : (z : LegendBand) (n : ℕ) (xs : List LegendBand) → 0 < n → n ≤ length xs → fromTo (getD xs 0 z .start) (getD xs (n - 1) z .end) ≡ bandsRange (take n xs)
+pub bands-from-to : (z : LegendBand) (n : ℕ) (xs : List LegendBand) → 0 < n → n ≤ length xs → fromTo (getD xs 0 z .start) (getD xs (n - 1) z .end)
+    ≡ bandsRange (take n xs)
 unfolding bandsRange
 bands-from-to z zero xs h g = absurd (omega arith)
 bands-from-to z (suc n) [] h g = absurd (omega arith)
@@ -50,7 +51,8 @@ bands-from-to z (suc n) (x ∷ xs) h g =
     let l : length (take n xs) ≡ n = length-take-le n xs (omega arith) in
     let p : suc n - 1 ≡ n = omega arith in
     let last : getD (x ∷ xs) (suc n - 1) z ≡ lastOf x (take n xs) =
-    ap (λ (k : ℕ). getD (x ∷ xs) k z) p ∙ sym (last-of z 0 x (take n xs) ∙ ap (λ (k : ℕ). getD (x ∷ take n xs) k z) l ∙ getD-take (suc n) (x ∷ xs) n z (omega arith)) in
+    ap (λ (k : ℕ). getD (x ∷ xs) k z) p
+    ∙ sym (last-of z 0 x (take n xs) ∙ ap (λ (k : ℕ). getD (x ∷ take n xs) k z) l ∙ getD-take (suc n) (x ∷ xs) n z (omega arith)) in
     ap (λ (b : LegendBand). fromTo (x .start) (b .end)) last
 
 -- ---- keys
@@ -73,10 +75,13 @@ chosen : (b : Bool) (x y : ℤ) → outside x ≡ false → outside y ≡ false 
 chosen true x y p q = p
 chosen false x y p q = q
 
-foremost-inside : (before : ℤ → ℤ → Bool) (keys : List ℤ) → keysRefusal keys ≡ Done → 0 < length keys → (n : ℕ) → n ≤ length keys → outside (foremost before n keys) ≡ false
+foremost-inside : (before : ℤ → ℤ → Bool) (keys : List ℤ) → keysRefusal keys ≡ Done → 0 < length keys → (n : ℕ) → n ≤ length keys
+    → outside (foremost before n keys) ≡ false
 unfolding foremost
 foremost-inside before keys e p zero h = inside 0 keys e 0 p
-foremost-inside before keys e p (suc n) h = chosen (before (getD keys n (pos 0)) (foremost before n keys)) (getD keys n (pos 0)) (foremost before n keys) (inside 0 keys e n h) (foremost-inside before keys e p n (omega arith))
+foremost-inside before keys e p (suc n) h =
+    chosen (before (getD keys n (pos 0)) (foremost before n keys)) (getD keys n (pos 0)) (foremost before n keys) (inside 0 keys e n h)
+    (foremost-inside before keys e p n (omega arith))
 
 -- the smallest and the largest are among the keys
 module _ (keys : List ℤ) (e : keysRefusal keys ≡ Done) (some : 0 < length keys) where

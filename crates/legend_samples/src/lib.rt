@@ -38,8 +38,11 @@ fn block(
     to: usize,
     out: &mut [u32],
 )
-    requires { ⌜ (storedRefusal (borrowedLegend view (now cmap) (now keys) (now colors) (now lookup)) ≡ Done) × (plainOrLanes lanes ≡ true) × (from ≤ to) × (to - from ≤ length (now samples)) × (to ≤ length (now out)) ⌝ }
-    ensures { λ _. ⌜ now (out .exit) ≡ take from (now (out .entry)) ++ (painted (painter (borrowedLegend view (now (cmap .entry)) (now (keys .entry)) (now (colors .entry)) (now (lookup .entry))) nodata) lanes (take (to - from) (now (samples .entry))) ++ drop to (now (out .entry))) ⌝ }
+    requires { ⌜ (storedRefusal (borrowedLegend view (now cmap) (now keys) (now colors) (now lookup)) ≡ Done) × (plainOrLanes lanes ≡ true) × (from ≤ to)
+        × (to - from ≤ length (now samples)) × (to ≤ length (now out)) ⌝ }
+    ensures { λ _. ⌜ now (out .exit) ≡ take from (now (out .entry))
+        ++ (painted (painter (borrowedLegend view (now (cmap .entry)) (now (keys .entry)) (now (colors .entry)) (now (lookup .entry))) nodata) lanes
+        (take (to - from) (now (samples .entry))) ++ drop to (now (out .entry))) ⌝ }
 {
     let count = to - from;
     let part = &samples[..count];
@@ -75,8 +78,11 @@ pub fn paint_u8(
     src: &[u8],
     out: &mut [u32],
 )
-    requires { ⌜ (storedRefusal (borrowedLegend view (now cmap) (now keys) (now colors) (now lookup)) ≡ Done) × (plainOrLanes lanes ≡ true) × (length (now out) ≡ length (now src)) ⌝ }
-    ensures { λ _. ⌜ now (out .exit) ≡ painted (painter (borrowedLegend view (now (cmap .entry)) (now (keys .entry)) (now (colors .entry)) (now (lookup .entry))) nodata) lanes (map ofU8 (now (src .entry))) ⌝ }
+    requires { ⌜ (storedRefusal (borrowedLegend view (now cmap) (now keys) (now colors) (now lookup)) ≡ Done) × (plainOrLanes lanes ≡ true)
+        × (length (now out) ≡ length (now src)) ⌝ }
+    ensures { λ _. ⌜ now (out .exit)
+        ≡ painted (painter (borrowedLegend view (now (cmap .entry)) (now (keys .entry)) (now (colors .entry)) (now (lookup .entry))) nodata) lanes
+        (map ofU8 (now (src .entry))) ⌝ }
 {
     let n = src.len();
     let mut from: usize = 0;
@@ -128,8 +134,11 @@ pub fn paint_i16(
     src: &[i16],
     out: &mut [u32],
 )
-    requires { ⌜ (storedRefusal (borrowedLegend view (now cmap) (now keys) (now colors) (now lookup)) ≡ Done) × (plainOrLanes lanes ≡ true) × (length (now out) ≡ length (now src)) ⌝ }
-    ensures { λ _. ⌜ now (out .exit) ≡ painted (painter (borrowedLegend view (now (cmap .entry)) (now (keys .entry)) (now (colors .entry)) (now (lookup .entry))) nodata) lanes (map ofI16 (now (src .entry))) ⌝ }
+    requires { ⌜ (storedRefusal (borrowedLegend view (now cmap) (now keys) (now colors) (now lookup)) ≡ Done) × (plainOrLanes lanes ≡ true)
+        × (length (now out) ≡ length (now src)) ⌝ }
+    ensures { λ _. ⌜ now (out .exit)
+        ≡ painted (painter (borrowedLegend view (now (cmap .entry)) (now (keys .entry)) (now (colors .entry)) (now (lookup .entry))) nodata) lanes
+        (map ofI16 (now (src .entry))) ⌝ }
 {
     let n = src.len();
     let mut from: usize = 0;

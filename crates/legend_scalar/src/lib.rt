@@ -1,4 +1,4 @@
-// Painting rasters plainly by a legend whose arrays are lent (docs/RULES.md, "Painting"). Samples are f32, u8 or i16.
+// Painting rasters plainly by a legend whose arrays are borrowed (docs/RULES.md, "Painting"). Samples are f32, u8 or i16.
 use cast::Nodata;
 use legend_view::View;
 use refusal::Answer;
@@ -18,7 +18,8 @@ pub fn apply_to_data_scalar(
     nodata: Nodata,
     out: &mut [u32],
 ) -> Answer
-    ensures { λ r. ⌜ PlainPainting (painter (borrowedLegend view (now (cmap .entry)) (now (keys .entry)) (now (colors .entry)) (now (lookup .entry))) nodata) (now (src .entry)) (now (out .entry)) r (now (out .exit)) ⌝ }
+    ensures { λ r. ⌜ PlainPainting (painter (borrowedLegend view (now (cmap .entry)) (now (keys .entry)) (now (colors .entry)) (now (lookup .entry))) nodata)
+        (now (src .entry)) (now (out .entry)) r (now (out .exit)) ⌝ }
 {
     let answer = painting::plain_refusal(view.stored_refusal(), src.len(), out.len());
     if let Answer::Refused(_) = answer {
@@ -38,7 +39,8 @@ pub fn apply_to_data_scalar_u8(
     nodata: Nodata,
     out: &mut [u32],
 ) -> Answer
-    ensures { λ r. ⌜ PlainPainting (painter (borrowedLegend view (now (cmap .entry)) (now (keys .entry)) (now (colors .entry)) (now (lookup .entry))) nodata) (map ofU8 (now (src .entry))) (now (out .entry)) r (now (out .exit)) ⌝ }
+    ensures { λ r. ⌜ PlainPainting (painter (borrowedLegend view (now (cmap .entry)) (now (keys .entry)) (now (colors .entry)) (now (lookup .entry))) nodata)
+        (map ofU8 (now (src .entry))) (now (out .entry)) r (now (out .exit)) ⌝ }
 {
     let answer = painting::plain_refusal(view.stored_refusal(), src.len(), out.len());
     if let Answer::Refused(_) = answer {
@@ -58,7 +60,8 @@ pub fn apply_to_data_scalar_i16(
     nodata: Nodata,
     out: &mut [u32],
 ) -> Answer
-    ensures { λ r. ⌜ PlainPainting (painter (borrowedLegend view (now (cmap .entry)) (now (keys .entry)) (now (colors .entry)) (now (lookup .entry))) nodata) (map ofI16 (now (src .entry))) (now (out .entry)) r (now (out .exit)) ⌝ }
+    ensures { λ r. ⌜ PlainPainting (painter (borrowedLegend view (now (cmap .entry)) (now (keys .entry)) (now (colors .entry)) (now (lookup .entry))) nodata)
+        (map ofI16 (now (src .entry))) (now (out .entry)) r (now (out .exit)) ⌝ }
 {
     let answer = painting::plain_refusal(view.stored_refusal(), src.len(), out.len());
     if let Answer::Refused(_) = answer {

@@ -1,4 +1,4 @@
--- A legend's head and its arrays are the legend. Assumes nothing.
+-- A legend's view and its arrays are the legend. Assumes nothing.
 use mathlib.Core.Path.{_≡_, refl}
 use Rattle.legend.specs.declared.Legend.{Legend}
 use Rattle.legend_view.specs.Borrowed.{borrowedLegend, viewOf}

@@ -1,4 +1,4 @@
--- A legend as its head and its lent arrays: the ramp, the keys with their colours, the table. Definitions only.
+-- A legend as its view and its borrowed arrays: the ramp, the keys with their colours, the table. Definitions only.
 use mathlib.Core.List.{List}
 use Prim.Native.Nat.{ℕ}
 use lib.IntN.{ℤ}

@@ -1,4 +1,4 @@
-// A legend whose arrays are lent: what is left of it goes by value (docs/DECISIONS.md, "A legend's arrays are lent").
+// A legend whose arrays are borrowed: what is left of it goes by value (docs/DECISIONS.md, "A legend's arrays are borrowed").
 use banded::Banded;
 use colormapper::MappingConfig;
 use legend::Legend;
@@ -51,7 +51,7 @@ impl View {
     }
 }
 
-// The head of a legend that is there by value.
+// The view of a legend that is there by value.
 pub fn view_of(legend: Legend) -> View
     ensures { λ r. ⌜ r ≡ viewOf legend ⌝ }
 {

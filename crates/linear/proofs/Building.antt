@@ -21,7 +21,8 @@ module _ (start end : Float) where
     abbrev whole : Linear
     whole = record { start = start; end = end; cmap = cmap }
 
-    pub refused : {why : Refusal} {r : Linear} → b ≡ Refused why → r ≡ emptyLinear → _≡_ {A = MadeLinear} (record { answer = b; linear = r }) (linearUnless a start end cmap)
+    pub refused : {why : Refusal} {r : Linear} → b ≡ Refused why → r ≡ emptyLinear → _≡_ {A =
+        MadeLinear} (record { answer = b; linear = r }) (linearUnless a start end cmap)
     unfolding linearUnless
     refused f g = ap₂ (λ x y. record { answer = x; linear = y }) e (g ∙ sym (when-refused whole emptyLinear (sym e ∙ f)))
 

@@ -17,7 +17,8 @@ use Rattle.colormapper.specs.Rule.{low, high, ruleColor}
 use Rattle.linear_rule.specs.Rule.{byRange, entryRule, ruleInRange, plainRule, laneRule, linearRuleColors, plainColor, laneColor}
 
 module _ (cmap : List ℕ) (start end : Float) (u : UnmappableColors) (v : Float) where
-  chosen : (entry : Entry) → byRange start end v (u .low) (u .high) (entryColor cmap entry) ≡ ruleColor (linearRuleColors cmap u) (ruleInRange start end v entry)
+  chosen : (entry : Entry) → byRange start end v (u .low) (u .high) (entryColor cmap entry) ≡ ruleColor (linearRuleColors cmap u)
+      (ruleInRange start end v entry)
   chosen entry = go (lt v (sub binary32 start E)) (lt (add binary32 end E) v)
     where
       found : (entry : Entry) → entryColor cmap entry ≡ ruleColor (linearRuleColors cmap u) (entryRule entry)

@@ -1,4 +1,5 @@
--- Where the start is not above the end the lane rule is the plain rule, but at a fraction that is the f32 with the bits 3B008080: there the lane takes ramp entry 1, and plainly it is entry 0.
+-- Where the start is not above the end the lane rule is the plain rule, but at a fraction that is the f32 with the bits 3B008080: there the lane takes ramp
+-- entry 1, and plainly it is entry 0.
 -- Bounds and sample may be NaN or infinite. Assumes nothing.
 use mathlib.Core.Path.{_≡_, refl, sym, ap, _∙_}
 use mathlib.Core.Logic.{_⊎_, inl, inr, _≢_}
@@ -60,33 +61,38 @@ fraction-same start end v ordered = rw ordered
 module _ (start end v : Float) (ordered : lt end start ≡ false) where
   pub rule-same : toBits binary32 (fraction start end v) ≢ 0x3B00_8080 → laneRule start end v ≡ plainRule start end v
   unfolding laneRule plainRule
-  rule-same n = ap (ruleInRange start end v) (entry-same (fraction start end v) (fraction-fits start end v) n ∙ ap plainEntry (sym (fraction-same start end v ordered)))
+  rule-same n =
+      ap (ruleInRange start end v) (entry-same (fraction start end v) (fraction-fits start end v) n ∙ ap plainEntry (sym (fraction-same start end v ordered)))
 
-  pub color-same : (cmap : List ℕ) (u : UnmappableColors) → toBits binary32 (fraction start end v) ≢ 0x3B00_8080 → laneColor cmap start end u v ≡ plainColor cmap start end u v
+  pub color-same : (cmap : List ℕ) (u : UnmappableColors) → toBits binary32 (fraction start end v) ≢ 0x3B00_8080 → laneColor cmap start end u v
+      ≡ plainColor cmap start end u v
   unfolding laneColor plainColor
   color-same cmap u n = ap (ruleColor (linearRuleColors cmap u)) (rule-same n)
 
-  module _ (bits : toBits binary32 (fraction start end v) ≡ 0x3B00_8080) (within : (lt v (sub binary32 start E) ≡ false) × (lt (add binary32 end E) v ≡ false)) where
-    in-range : (entry : Entry) → ruleInRange start end v entry ≡ entryRule entry
-    in-range entry = rw (within .0, within .1)
+  module _ (bits : toBits binary32 (fraction start end v) ≡ 0x3B00_8080) (within : (lt v (sub binary32 start E) ≡ false) × (lt (add binary32 end E) v ≡ false))
+    where
+      in-range : (entry : Entry) → ruleInRange start end v entry ≡ entryRule entry
+      in-range entry = rw (within .0, within .1)
 
-    pub rule-differs : (laneRule start end v ≡ rampEntry 1) × (plainRule start end v ≡ rampEntry 0)
-    unfolding laneRule plainRule
-    rule-differs =
-        let d = entry-differs (fraction start end v) (fraction-fits start end v) bits in (
-          in-range (laneEntry (fraction start end v)) ∙ ap entryRule (d .0),
-          in-range (plainEntry (plainFraction start end v)) ∙ ap entryRule (ap plainEntry (fraction-same start end v ordered) ∙ d .1),
-        )
+      pub rule-differs : (laneRule start end v ≡ rampEntry 1) × (plainRule start end v ≡ rampEntry 0)
+      unfolding laneRule plainRule
+      rule-differs =
+          let d = entry-differs (fraction start end v) (fraction-fits start end v) bits in (
+            in-range (laneEntry (fraction start end v)) ∙ ap entryRule (d .0),
+            in-range (plainEntry (plainFraction start end v)) ∙ ap entryRule (ap plainEntry (fraction-same start end v ordered) ∙ d .1),
+          )
 
-    pub color-differs : (cmap : List ℕ) (u : UnmappableColors) → (laneColor cmap start end u v ≡ getD cmap 1 0) × (plainColor cmap start end u v ≡ getD cmap 0 0)
-    unfolding laneColor plainColor
-    color-differs cmap u = (ap (ruleColor (linearRuleColors cmap u)) (rule-differs .0), ap (ruleColor (linearRuleColors cmap u)) (rule-differs .1))
+      pub color-differs : (cmap : List ℕ) (u : UnmappableColors) → (laneColor cmap start end u v ≡ getD cmap 1 0)
+          × (plainColor cmap start end u v ≡ getD cmap 0 0)
+      unfolding laneColor plainColor
+      color-differs cmap u = (ap (ruleColor (linearRuleColors cmap u)) (rule-differs .0), ap (ruleColor (linearRuleColors cmap u)) (rule-differs .1))
 
   -- THE LAW: the two colours are one, but at that fraction
   pub lane-law : (cmap : List ℕ) (u : UnmappableColors) → (laneColor cmap start end u v ≡ plainColor cmap start end u v) ⊎ ExceptionFraction start end v
   lane-law cmap u = go (eqb (toBits binary32 (fraction start end v)) 0x3B00_8080) refl
     where
-      go : (b : Bool) → eqb (toBits binary32 (fraction start end v)) 0x3B00_8080 ≡ b → (laneColor cmap start end u v ≡ plainColor cmap start end u v) ⊎ ExceptionFraction start end v
+      go : (b : Bool) → eqb (toBits binary32 (fraction start end v)) 0x3B00_8080 ≡ b → (laneColor cmap start end u v ≡ plainColor cmap start end u v)
+          ⊎ ExceptionFraction start end v
       go true e = inr (eqb-true (toBits binary32 (fraction start end v)) 0x3B00_8080 e)
       go false e = inl (color-same cmap u (eqb-false (toBits binary32 (fraction start end v)) 0x3B00_8080 e))
 

@@ -25,7 +25,8 @@ module _ {A : Type 0} {z : A} {f : ℕ → A} {n l : ℕ} {r : List A} where
       record {
         upto = omega arith;
         long = length-set r i x ∙ p .long;
-        lanes = below-more (λ k. getD (set r i x) k z ≡ f k) i (λ k q. getD-set-other r i k x z (λ (s : k ≡ i). omega arith) ∙ p .lanes k q) (getD-set-same r i x z (omega (arith, p .long)) ∙ e);
+        lanes = below-more (λ k. getD (set r i x) k z ≡ f k) i (λ k q. getD-set-other r i k x z (λ (s : k ≡ i). omega arith) ∙ p .lanes k q)
+            (getD-set-same r i x z (omega (arith, p .long)) ∙ e);
       }
 
   pub filling-end : {i : ℕ} → Filling z f n l i r → l ≤ i → Lanes z l r f

@@ -83,7 +83,8 @@ tabulate-padded z n xs h =
     (tabulated z n (λ k. getD xs k z) (padded z n xs) (length-padded z n xs h)
     (λ k q. elim (lt-or-le k (length xs)) [ inl l ↦ getD-padded z n xs k z l | inr l ↦ getD-past z n xs k z l q ∙ sym (List·getD-eq-default xs z l) ]))
 
--- ---- a loop that stores f k in place k of an array of n, for each k below l, and leaves z in the others: its invariant at i, the first turn, each turn and the end
+-- ---- a loop that stores f k in place k of an array of n, for each k below l, and leaves z in the others: its invariant at i, the first turn, each turn and
+-- the end
 pub record Storing {A : Type 0} (z : A) (f : ℕ → A) (n l i : ℕ) (r : List A) : Type 0 where
   pub upto : i ≤ l
   pub is : r ≡ padded z n (tabulate i f)

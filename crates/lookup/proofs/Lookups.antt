@@ -56,7 +56,8 @@ module _ (f : Float) where
   kept-outside h = rw h
 
   -- a colour looked up first and replaced outside
-  chosen : (cmap : List ℕ) (index : Float → ℕ) → cond (inUnit f) (getD cmap (index (unitOrZero f)) 0) 0 ≡ entryColor cmap (cond (inUnit f) (At (index f)) Outside)
+  chosen : (cmap : List ℕ) (index : Float → ℕ) → cond (inUnit f) (getD cmap (index (unitOrZero f)) 0) 0
+      ≡ entryColor cmap (cond (inUnit f) (At (index f)) Outside)
   unfolding unitOrZero
   chosen cmap index = go (inUnit f)
     where

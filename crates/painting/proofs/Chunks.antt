@@ -26,7 +26,8 @@ in-second s t i h = ap (λ (n : ℕ). getD (s ++ t) n 0) e ∙ getD-append-add s
     e : i ≡ length s + (i - length s)
     e = omega arith
 
-module _ (L : ℕ) (chunk : List Float → List ℕ) (plain : Float → ℕ) (t : Terms) (law : ChunkLaw L chunk plain t) (alike : (v w : Float) → t .Alike v w → plain v ≡ plain w) where
+module _ (L : ℕ) (chunk : List Float → List ℕ) (plain : Float → ℕ) (t : Terms) (law : ChunkLaw L chunk plain t)
+    (alike : (v w : Float) → t .Alike v w → plain v ≡ plain w) where
   -- the first of k + 1 chunks, and the others, in a raster that is long enough
   module _ (k : ℕ) (xs : List Float) (h : suc k * L ≤ length xs) where
     abbrev first : List Float
@@ -49,8 +50,11 @@ module _ (L : ℕ) (chunk : List Float → List ℕ) (plain : Float → ℕ) (t 
 
     in-later-chunk : (i : ℕ) → L ≤ i → (getD (chunk first ++ later) i 0 ≡ getD later (i - L) 0) × (getD (drop L xs) (i - L) nan ≡ getD xs i nan)
     in-later-chunk i b =
-        let back : L + (i - L) ≡ i = omega arith in
-        (in-second (chunk first) later i (omega (arith, painted-long)) ∙ ap (λ (m : ℕ). getD later (i - m) 0) painted-long, getD-drop L xs (i - L) nan ∙ ap (λ (m : ℕ). getD xs m nan) back)
+        let back : L + (i - L) ≡ i = omega arith in (
+          in-second (chunk first) later i (omega (arith, painted-long)) ∙ ap (λ (m : ℕ). getD later (i - m) 0) painted-long,
+          getD-drop L xs (i - L) nan
+              ∙ ap (λ (m : ℕ). getD xs m nan) back,
+        )
 
   -- k chunks, then the rest plainly
   same-chunked : (k : ℕ) (xs : List Float) → k * L ≤ length xs → (i : ℕ) → i < length xs
@@ -60,14 +64,16 @@ module _ (L : ℕ) (chunk : List Float → List ℕ) (plain : Float → ℕ) (t 
   same-chunked (suc k) xs h i l = ⊎-elim
       (λ (b : i < L).
       let at = in-first-chunk k xs h i b in
-      ⊎-elim (λ e. inl (at .0 ∙ e ∙ ap plain (at .1))) (λ o. inr (omega (arith, more k xs h), subst (t .RoundingException) (at .1) o)) (law .lane (first k xs h) (first-long k xs h) i b))
+      ⊎-elim (λ e. inl (at .0 ∙ e ∙ ap plain (at .1))) (λ o. inr (omega (arith, more k xs h), subst (t .RoundingException) (at .1) o))
+      (law .lane (first k xs h) (first-long k xs h) i b))
       (λ (b : L ≤ i).
       let at = in-later-chunk k xs h i b in
       ⊎-elim (λ e. inl (at .0 ∙ e ∙ ap plain (at .1))) (λ o. inr (omega (arith, more k xs h), subst (t .RoundingException) (at .1) (o .1)))
       (same-chunked k (drop L xs) (omega (arith, more k xs h, length-drop L xs)) (i - L) (omega (arith, length-drop L xs))))
       (lt-or-le i L)
 
-  differs-chunked : (k : ℕ) (xs : List Float) → k * L ≤ length xs → (i : ℕ) → i < k * L → t .RoundingException (getD xs i nan) → (getD (chunked k L chunk plain xs) i 0 ≡ t .lane-color) × (plain (getD xs i nan) ≡ t .plain-color)
+  differs-chunked : (k : ℕ) (xs : List Float) → k * L ≤ length xs → (i : ℕ) → i < k * L → t .RoundingException (getD xs i nan)
+      → (getD (chunked k L chunk plain xs) i 0 ≡ t .lane-color) × (plain (getD xs i nan) ≡ t .plain-color)
   unfolding chunked
   differs-chunked zero xs h i l o = absurd (omega arith)
   differs-chunked (suc k) xs h i l o = ⊎-elim
@@ -77,11 +83,13 @@ module _ (L : ℕ) (chunk : List Float → List ℕ) (plain : Float → ℕ) (t 
       (at .0 ∙ d .0, ap plain (sym (at .1)) ∙ d .1))
       (λ (b : L ≤ i).
       let at = in-later-chunk k xs h i b in
-      let d = differs-chunked k (drop L xs) (omega (arith, more k xs h, length-drop L xs)) (i - L) (omega (arith, more k xs h)) (subst (t .RoundingException) (sym (at .1)) o) in
+      let d = differs-chunked k (drop L xs) (omega (arith, more k xs h, length-drop L xs)) (i - L) (omega (arith, more k xs h))
+      (subst (t .RoundingException) (sym (at .1)) o) in
       (at .0 ∙ d .0, ap plain (sym (at .1)) ∙ d .1))
       (lt-or-le i L)
 
-  alone-chunked : (k : ℕ) (xs ys : List Float) → k * L ≤ length xs → k * L ≤ length ys → (i : ℕ) → i < length xs → i < length ys → t .Alike (getD xs i nan) (getD ys i nan)
+  alone-chunked : (k : ℕ) (xs ys : List Float) → k * L ≤ length xs → k * L ≤ length ys → (i : ℕ) → i < length xs → i < length ys
+      → t .Alike (getD xs i nan) (getD ys i nan)
       → getD (chunked k L chunk plain xs) i 0 ≡ getD (chunked k L chunk plain ys) i 0
   unfolding chunked
   alone-chunked zero xs ys h g i l m a = sym (getD-map-in plain xs i nan 0 l) ∙ alike (getD xs i nan) (getD ys i nan) a ∙ getD-map-in plain ys i nan 0 m
@@ -89,12 +97,14 @@ module _ (L : ℕ) (chunk : List Float → List ℕ) (plain : Float → ℕ) (t 
       (λ (b : i < L).
       let x = in-first-chunk k xs h i b in
       let y = in-first-chunk k ys g i b in
-      x .0 ∙ law .by-sample (first k xs h) (first k ys g) (first-long k xs h) (first-long k ys g) i b (subst₂ (t .Alike) (sym (x .1)) (sym (y .1)) a) ∙ sym (y .0))
+      x .0 ∙ law .by-sample (first k xs h) (first k ys g) (first-long k xs h) (first-long k ys g) i b (subst₂ (t .Alike) (sym (x .1)) (sym (y .1)) a)
+      ∙ sym (y .0))
       (λ (b : L ≤ i).
       let x = in-later-chunk k xs h i b in
       let y = in-later-chunk k ys g i b in
       x .0
-      ∙ alone-chunked k (drop L xs) (drop L ys) (omega (arith, more k xs h, length-drop L xs)) (omega (arith, more k xs h, length-drop L ys)) (i - L) (omega (arith, length-drop L xs)) (omega (arith, length-drop L ys))
+      ∙ alone-chunked k (drop L xs) (drop L ys) (omega (arith, more k xs h, length-drop L xs)) (omega (arith, more k xs h, length-drop L ys)) (i - L)
+      (omega (arith, length-drop L xs)) (omega (arith, length-drop L ys))
       (subst₂ (t .Alike) (sym (x .1)) (sym (y .1)) a)
       ∙ sym (y .0))
       (lt-or-le i L)
@@ -118,20 +128,24 @@ module _ (p : Painter) (L : ℕ) (t : Terms) (law : PainterLaw p L t) where
   same-at true h xs i l = same-chunked L (p .chunk) (p .plain) t (h refl) (law .plain-by-sample) (length xs / L) xs (div-mul-le-self (length xs) L) i l
   same-at false h xs i l = inl (sym (getD-map-in (p .plain) xs i nan 0 l))
 
-  differs-at : (b : Bool) → (b ≡ true → ChunkLaw L (p .chunk) (p .plain) t) → b ≡ true → (xs : List Float) (i : ℕ) → i < full L (length xs) → t .RoundingException (getD xs i nan)
+  differs-at : (b : Bool) → (b ≡ true → ChunkLaw L (p .chunk) (p .plain) t) → b ≡ true → (xs : List Float) (i : ℕ) → i < full L (length xs)
+      → t .RoundingException (getD xs i nan)
       → (getD (in-lanes b xs) i 0 ≡ t .lane-color) × (p .plain (getD xs i nan) ≡ t .plain-color)
   unfolding lanePainted
-  differs-at true h e xs i l o = differs-chunked L (p .chunk) (p .plain) t (h refl) (law .plain-by-sample) (length xs / L) xs (div-mul-le-self (length xs) L) i l o
+  differs-at true h e xs i l o =
+      differs-chunked L (p .chunk) (p .plain) t (h refl) (law .plain-by-sample) (length xs / L) xs (div-mul-le-self (length xs) L) i l o
   differs-at false h e xs i l o = absurd (true≢false (sym e))
 
-  alone-at : (b : Bool) → (b ≡ true → ChunkLaw L (p .chunk) (p .plain) t) → (xs ys : List Float) → length xs ≡ length ys → (i : ℕ) → i < length xs → t .Alike (getD xs i nan) (getD ys i nan)
+  alone-at : (b : Bool) → (b ≡ true → ChunkLaw L (p .chunk) (p .plain) t) → (xs ys : List Float) → length xs ≡ length ys → (i : ℕ) → i < length xs
+      → t .Alike (getD xs i nan) (getD ys i nan)
       → getD (in-lanes b xs) i 0 ≡ getD (in-lanes b ys) i 0
   unfolding lanePainted
   alone-at true h xs ys e i l a =
       alone-chunked L (p .chunk) (p .plain) t (h refl) (law .plain-by-sample) (length xs / L) xs ys (div-mul-le-self (length xs) L)
       (subst (λ (n : ℕ). n / L * L ≤ length ys) (sym e) (div-mul-le-self (length ys) L)) i l (omega arith) a
       ∙ ap (λ (n : ℕ). getD (chunked (n / L) L (p .chunk) (p .plain) ys) i 0) e
-  alone-at false h xs ys e i l a = sym (getD-map-in (p .plain) xs i nan 0 l) ∙ law .plain-by-sample (getD xs i nan) (getD ys i nan) a ∙ getD-map-in (p .plain) ys i nan 0 (omega arith)
+  alone-at false h xs ys e i l a =
+      sym (getD-map-in (p .plain) xs i nan 0 l) ∙ law .plain-by-sample (getD xs i nan) (getD ys i nan) a ∙ getD-map-in (p .plain) ys i nan 0 (omega arith)
 
   -- ---- of any two calls that keep their contracts and are not refused, whatever output and scratch held before
   pub pixel-same : {xs : List Float} {o o' q q' s s' : List ℕ} → PlainPainting p xs o Done o' → LanePainting p L xs q s Done q' s' → (i : ℕ) → i < length xs

@@ -11,7 +11,8 @@ use Rattle.lists.specs.Lanes.{Lanes}
 use Rattle.painting.specs.Masked.{masked}
 
 module _ (unmappable : Float → Bool) (nodata : ℕ) where
-  pub lanes-masked : (l : ℕ) (r : List ℕ) (vs : List Float) (cs : List ℕ) → l ≤ length r → l ≤ length vs → l ≤ length cs → Lanes 0 l r (λ k. cond (unmappable (getD vs k nan)) nodata (getD cs k 0))
+  pub lanes-masked : (l : ℕ) (r : List ℕ) (vs : List Float) (cs : List ℕ) → l ≤ length r → l ≤ length vs → l ≤ length cs
+      → Lanes 0 l r (λ k. cond (unmappable (getD vs k nan)) nodata (getD cs k 0))
       → take l r ≡ masked unmappable nodata (take l vs) (take l cs)
   unfolding masked
   lanes-masked zero r vs cs h g f all = refl
@@ -19,7 +20,8 @@ module _ (unmappable : Float → Bool) (nodata : ℕ) where
   lanes-masked (suc l) (b ∷ r) [] cs h g f all = absurd (not-suc-le-zero g)
   lanes-masked (suc l) (b ∷ r) (v ∷ vs) [] h g f all = absurd (not-suc-le-zero f)
   lanes-masked (suc l) (b ∷ r) (v ∷ vs) (c ∷ cs) h g f all =
-      ap₂ (λ x y. x ∷ y) (all zero (zero-lt-suc l)) (lanes-masked l r vs cs (le-of-suc-le-suc h) (le-of-suc-le-suc g) (le-of-suc-le-suc f) (λ k q. all (suc k) (omega arith)))
+      ap₂ (λ x y. x ∷ y) (all zero (zero-lt-suc l))
+      (lanes-masked l r vs cs (le-of-suc-le-suc h) (le-of-suc-le-suc g) (le-of-suc-le-suc f) (λ k q. all (suc k) (omega arith)))
 
   pub length-masked : (vs : List Float) (cs : List ℕ) → length cs ≡ length vs → length (masked unmappable nodata vs cs) ≡ length vs
   unfolding masked
@@ -27,7 +29,8 @@ module _ (unmappable : Float → Bool) (nodata : ℕ) where
   length-masked (v ∷ vs) [] e = absurd (omega arith)
   length-masked (v ∷ vs) (c ∷ cs) e = ap suc (length-masked vs cs (omega arith))
 
-  pub getD-masked : (vs : List Float) (cs : List ℕ) (k : ℕ) → k < length vs → length cs ≡ length vs → getD (masked unmappable nodata vs cs) k 0 ≡ cond (unmappable (getD vs k nan)) nodata (getD cs k 0)
+  pub getD-masked : (vs : List Float) (cs : List ℕ) (k : ℕ) → k < length vs → length cs ≡ length vs → getD (masked unmappable nodata vs cs) k 0
+      ≡ cond (unmappable (getD vs k nan)) nodata (getD cs k 0)
   unfolding masked
   getD-masked [] cs k h e = absurd (not-suc-le-zero h)
   getD-masked (v ∷ vs) [] k h e = absurd (omega arith)

@@ -1,4 +1,5 @@
--- Lane painting splits at whole chunks, plain painting anywhere; blocks coloured plainly are plain painting; and each gives a colour for each sample. For any lane count above 0. Assumes nothing.
+-- Lane painting splits at whole chunks, plain painting anywhere; blocks coloured plainly are plain painting; and each gives a colour for each sample. For any
+-- lane count above 0. Assumes nothing.
 use mathlib.Core.Path.{_≡_, refl, sym, ap, _∙_}
 use mathlib.Core.List.{List, [], _∷_, _++_, map, append-assoc, map-append}
 use Prim.Native.Nat.{ℕ, zero, suc, _+_, _-_, _*_, _/_, _≤_, _<_}
@@ -12,7 +13,8 @@ use Rattle.painting.proofs.Steps.{lane-more, lane-rest}
 
 module _ (L : ℕ) (p : 0 < L) (chunk : List Float → List ℕ) (plain : Float → ℕ) where
   -- k whole chunks, then the rest
-  pub lane-split : (k : ℕ) (xs ys : List Float) → length xs ≡ k * L → lanePainted L chunk plain (xs ++ ys) ≡ lanePainted L chunk plain xs ++ lanePainted L chunk plain ys
+  pub lane-split : (k : ℕ) (xs ys : List Float) → length xs ≡ k * L → lanePainted L chunk plain (xs ++ ys) ≡ lanePainted L chunk plain xs
+      ++ lanePainted L chunk plain ys
   lane-split zero [] ys e = ap (λ (r : List ℕ). r ++ lanePainted L chunk plain ys) (sym (lane-rest L chunk plain [] p))
   lane-split zero (x ∷ xs) ys e = absurd (omega (arith, zero-mul L))
   lane-split (suc k) xs ys e =
@@ -46,7 +48,14 @@ module _ (L : ℕ) (chunk : List Float → List ℕ) (plain : Float → ℕ) (sa
   long (suc k) xs h =
       let q : suc k * L ≡ k * L + L = suc-mul k L in
       let n : length (take L xs) ≡ L = length-take-le L xs (omega arith) in
-      omega (arith, length-append (chunk (take L xs)) (chunked k L chunk plain (drop L xs)), same (take L xs), long k (drop L xs) (omega (arith, length-drop L xs)), length-drop L xs)
+      omega (
+        arith,
+        length-append (chunk (take L xs)) (chunked k L chunk plain (drop L xs)),
+        same (take L xs),
+        long k (drop L xs)
+            (omega (arith, length-drop L xs)),
+        length-drop L xs,
+      )
 
   pub length-painted : (xs : List Float) → length (lanePainted L chunk plain xs) ≡ length xs
   unfolding lanePainted

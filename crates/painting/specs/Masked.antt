@@ -17,6 +17,7 @@ abbrev pub maskedColor : (unmappable : Float → Bool) (nodata : ℕ) (rule : Fl
 maskedColor unmappable nodata rule v = cond (unmappable v) nodata (rule v)
 
 -- a legend for painting, by its kind's two rules for mappable samples
-abbrev pub painterOf : (stored : Answer) (simd : Bool) (unmappable : Float → Bool) (nodata : ℕ) (plainColor : Float → ℕ) (laneColors : List Float → List ℕ) → Painter
+abbrev pub painterOf : (stored : Answer) (simd : Bool) (unmappable : Float → Bool) (nodata : ℕ) (plainColor : Float → ℕ) (laneColors : List Float → List ℕ)
+    → Painter
 painterOf stored simd unmappable nodata plainColor laneColors =
     record { stored = stored; simd = simd; plain = maskedColor unmappable nodata plainColor; chunk = λ vs. masked unmappable nodata vs (laneColors vs) }

@@ -14,7 +14,8 @@ blues =
 
 abbrev pub brBg : List ℕ
 brBg =
-    rgb 84 48 5 ∷ rgb 140 81 10 ∷ rgb 191 129 45 ∷ rgb 223 194 125 ∷ rgb 246 232 195 ∷ rgb 245 245 245 ∷ rgb 199 234 229 ∷ rgb 128 205 193 ∷ rgb 53 151 143 ∷ rgb 1 102 94 ∷ rgb 0 60 48 ∷ []
+    rgb 84 48 5 ∷ rgb 140 81 10 ∷ rgb 191 129 45 ∷ rgb 223 194 125 ∷ rgb 246 232 195 ∷ rgb 245 245 245 ∷ rgb 199 234 229 ∷ rgb 128 205 193 ∷ rgb 53 151 143 ∷
+    rgb 1 102 94 ∷ rgb 0 60 48 ∷ []
 
 abbrev pub buGn : List ℕ
 buGn =
@@ -22,11 +23,13 @@ buGn =
 
 abbrev pub buPu : List ℕ
 buPu =
-    rgb 247 252 253 ∷ rgb 224 236 244 ∷ rgb 191 211 230 ∷ rgb 158 188 218 ∷ rgb 140 150 198 ∷ rgb 140 107 177 ∷ rgb 136 65 157 ∷ rgb 129 15 124 ∷ rgb 77 0 75 ∷ []
+    rgb 247 252 253 ∷ rgb 224 236 244 ∷ rgb 191 211 230 ∷ rgb 158 188 218 ∷ rgb 140 150 198 ∷ rgb 140 107 177 ∷ rgb 136 65 157 ∷ rgb 129 15 124 ∷ rgb 77 0 75 ∷
+    []
 
 abbrev pub gnBu : List ℕ
 gnBu =
-    rgb 247 252 240 ∷ rgb 224 243 219 ∷ rgb 204 235 197 ∷ rgb 168 221 181 ∷ rgb 123 204 196 ∷ rgb 78 179 211 ∷ rgb 43 140 190 ∷ rgb 8 104 172 ∷ rgb 8 64 129 ∷ []
+    rgb 247 252 240 ∷ rgb 224 243 219 ∷ rgb 204 235 197 ∷ rgb 168 221 181 ∷ rgb 123 204 196 ∷ rgb 78 179 211 ∷ rgb 43 140 190 ∷ rgb 8 104 172 ∷ rgb 8 64 129 ∷
+    []
 
 abbrev pub greens : List ℕ
 greens =
@@ -46,11 +49,13 @@ orRd =
 
 abbrev pub piYg : List ℕ
 piYg =
-    rgb 142 1 82 ∷ rgb 197 27 125 ∷ rgb 222 119 174 ∷ rgb 241 182 218 ∷ rgb 253 224 239 ∷ rgb 247 247 247 ∷ rgb 230 245 208 ∷ rgb 184 225 134 ∷ rgb 127 188 65 ∷ rgb 77 146 33 ∷ rgb 39 100 25 ∷ []
+    rgb 142 1 82 ∷ rgb 197 27 125 ∷ rgb 222 119 174 ∷ rgb 241 182 218 ∷ rgb 253 224 239 ∷ rgb 247 247 247 ∷ rgb 230 245 208 ∷ rgb 184 225 134 ∷ rgb 127 188 65 ∷
+    rgb 77 146 33 ∷ rgb 39 100 25 ∷ []
 
 abbrev pub prGn : List ℕ
 prGn =
-    rgb 64 0 75 ∷ rgb 118 42 131 ∷ rgb 153 112 171 ∷ rgb 194 165 207 ∷ rgb 231 212 232 ∷ rgb 247 247 247 ∷ rgb 217 240 211 ∷ rgb 166 219 160 ∷ rgb 90 174 97 ∷ rgb 27 120 55 ∷ rgb 0 68 27 ∷ []
+    rgb 64 0 75 ∷ rgb 118 42 131 ∷ rgb 153 112 171 ∷ rgb 194 165 207 ∷ rgb 231 212 232 ∷ rgb 247 247 247 ∷ rgb 217 240 211 ∷ rgb 166 219 160 ∷ rgb 90 174 97 ∷
+    rgb 27 120 55 ∷ rgb 0 68 27 ∷ []
 
 abbrev pub puBu : List ℕ
 puBu =
@@ -62,7 +67,8 @@ puBuGn =
 
 abbrev pub puOr : List ℕ
 puOr =
-    rgb 127 59 8 ∷ rgb 179 88 6 ∷ rgb 224 130 20 ∷ rgb 253 184 99 ∷ rgb 254 224 182 ∷ rgb 247 247 247 ∷ rgb 216 218 235 ∷ rgb 178 171 210 ∷ rgb 128 115 172 ∷ rgb 84 39 136 ∷ rgb 45 0 75 ∷ []
+    rgb 127 59 8 ∷ rgb 179 88 6 ∷ rgb 224 130 20 ∷ rgb 253 184 99 ∷ rgb 254 224 182 ∷ rgb 247 247 247 ∷ rgb 216 218 235 ∷ rgb 178 171 210 ∷ rgb 128 115 172 ∷
+    rgb 84 39 136 ∷ rgb 45 0 75 ∷ []
 
 abbrev pub puRd : List ℕ
 puRd =
@@ -70,16 +76,19 @@ puRd =
 
 abbrev pub purples : List ℕ
 purples =
-    rgb 252 251 253 ∷ rgb 239 237 245 ∷ rgb 218 218 235 ∷ rgb 188 189 220 ∷ rgb 158 154 200 ∷ rgb 128 125 186 ∷ rgb 106 81 163 ∷ rgb 84 39 143 ∷ rgb 63 0 125 ∷ []
+    rgb 252 251 253 ∷ rgb 239 237 245 ∷ rgb 218 218 235 ∷ rgb 188 189 220 ∷ rgb 158 154 200 ∷ rgb 128 125 186 ∷ rgb 106 81 163 ∷ rgb 84 39 143 ∷ rgb 63 0 125 ∷
+    []
 
 -- the nine colours of PURPLES, as in the Rust and unlike ColorBrewer
 abbrev pub rdBu : List ℕ
 rdBu =
-    rgb 252 251 253 ∷ rgb 239 237 245 ∷ rgb 218 218 235 ∷ rgb 188 189 220 ∷ rgb 158 154 200 ∷ rgb 128 125 186 ∷ rgb 106 81 163 ∷ rgb 84 39 143 ∷ rgb 63 0 125 ∷ []
+    rgb 252 251 253 ∷ rgb 239 237 245 ∷ rgb 218 218 235 ∷ rgb 188 189 220 ∷ rgb 158 154 200 ∷ rgb 128 125 186 ∷ rgb 106 81 163 ∷ rgb 84 39 143 ∷ rgb 63 0 125 ∷
+    []
 
 abbrev pub rdGy : List ℕ
 rdGy =
-    rgb 103 0 31 ∷ rgb 178 24 43 ∷ rgb 214 96 77 ∷ rgb 244 165 130 ∷ rgb 253 219 199 ∷ rgb 255 255 255 ∷ rgb 224 224 224 ∷ rgb 186 186 186 ∷ rgb 135 135 135 ∷ rgb 77 77 77 ∷ rgb 26 26 26 ∷ []
+    rgb 103 0 31 ∷ rgb 178 24 43 ∷ rgb 214 96 77 ∷ rgb 244 165 130 ∷ rgb 253 219 199 ∷ rgb 255 255 255 ∷ rgb 224 224 224 ∷ rgb 186 186 186 ∷ rgb 135 135 135 ∷
+    rgb 77 77 77 ∷ rgb 26 26 26 ∷ []
 
 abbrev pub rdPu : List ℕ
 rdPu =
@@ -87,11 +96,13 @@ rdPu =
 
 abbrev pub rdYlBu : List ℕ
 rdYlBu =
-    rgb 165 0 38 ∷ rgb 215 48 39 ∷ rgb 244 109 67 ∷ rgb 253 174 97 ∷ rgb 254 224 144 ∷ rgb 255 255 191 ∷ rgb 224 243 248 ∷ rgb 171 217 233 ∷ rgb 116 173 209 ∷ rgb 69 117 180 ∷ rgb 49 54 149 ∷ []
+    rgb 165 0 38 ∷ rgb 215 48 39 ∷ rgb 244 109 67 ∷ rgb 253 174 97 ∷ rgb 254 224 144 ∷ rgb 255 255 191 ∷ rgb 224 243 248 ∷ rgb 171 217 233 ∷ rgb 116 173 209 ∷
+    rgb 69 117 180 ∷ rgb 49 54 149 ∷ []
 
 abbrev pub rdYlGn : List ℕ
 rdYlGn =
-    rgb 165 0 38 ∷ rgb 215 48 39 ∷ rgb 244 109 67 ∷ rgb 253 174 97 ∷ rgb 254 224 139 ∷ rgb 255 255 191 ∷ rgb 217 239 139 ∷ rgb 166 217 106 ∷ rgb 102 189 99 ∷ rgb 26 152 80 ∷ rgb 0 104 55 ∷ []
+    rgb 165 0 38 ∷ rgb 215 48 39 ∷ rgb 244 109 67 ∷ rgb 253 174 97 ∷ rgb 254 224 139 ∷ rgb 255 255 191 ∷ rgb 217 239 139 ∷ rgb 166 217 106 ∷ rgb 102 189 99 ∷
+    rgb 26 152 80 ∷ rgb 0 104 55 ∷ []
 
 abbrev pub reds : List ℕ
 reds =
@@ -99,7 +110,8 @@ reds =
 
 abbrev pub spectral : List ℕ
 spectral =
-    rgb 158 1 66 ∷ rgb 213 62 79 ∷ rgb 244 109 67 ∷ rgb 253 174 97 ∷ rgb 254 224 139 ∷ rgb 255 255 191 ∷ rgb 230 245 152 ∷ rgb 171 221 164 ∷ rgb 102 194 165 ∷ rgb 50 136 189 ∷ rgb 94 79 162 ∷ []
+    rgb 158 1 66 ∷ rgb 213 62 79 ∷ rgb 244 109 67 ∷ rgb 253 174 97 ∷ rgb 254 224 139 ∷ rgb 255 255 191 ∷ rgb 230 245 152 ∷ rgb 171 221 164 ∷ rgb 102 194 165 ∷
+    rgb 50 136 189 ∷ rgb 94 79 162 ∷ []
 
 abbrev pub ylGn : List ℕ
 ylGn =
@@ -127,11 +139,13 @@ dark2 =
 
 abbrev pub paired : List ℕ
 paired =
-    rgb 166 206 227 ∷ rgb 31 120 180 ∷ rgb 178 223 138 ∷ rgb 51 160 44 ∷ rgb 251 154 153 ∷ rgb 227 26 28 ∷ rgb 253 191 111 ∷ rgb 255 127 0 ∷ rgb 202 178 214 ∷ rgb 106 61 154 ∷ rgb 255 255 153 ∷ rgb 177 89 40 ∷ []
+    rgb 166 206 227 ∷ rgb 31 120 180 ∷ rgb 178 223 138 ∷ rgb 51 160 44 ∷ rgb 251 154 153 ∷ rgb 227 26 28 ∷ rgb 253 191 111 ∷ rgb 255 127 0 ∷ rgb 202 178 214 ∷
+    rgb 106 61 154 ∷ rgb 255 255 153 ∷ rgb 177 89 40 ∷ []
 
 abbrev pub pastel1 : List ℕ
 pastel1 =
-    rgb 251 180 174 ∷ rgb 179 205 227 ∷ rgb 204 235 197 ∷ rgb 222 203 228 ∷ rgb 254 217 166 ∷ rgb 255 255 204 ∷ rgb 229 216 189 ∷ rgb 253 218 236 ∷ rgb 242 242 242 ∷ []
+    rgb 251 180 174 ∷ rgb 179 205 227 ∷ rgb 204 235 197 ∷ rgb 222 203 228 ∷ rgb 254 217 166 ∷ rgb 255 255 204 ∷ rgb 229 216 189 ∷ rgb 253 218 236 ∷ rgb 242 242
+    242 ∷ []
 
 abbrev pub pastel2 : List ℕ
 pastel2 =
@@ -139,7 +153,8 @@ pastel2 =
 
 unfoldable pub palettes : List (List ℕ)
 palettes =
-    blues ∷ brBg ∷ buGn ∷ buPu ∷ gnBu ∷ greens ∷ greys ∷ oranges ∷ orRd ∷ piYg ∷ prGn ∷ puBu ∷ puBuGn ∷ puOr ∷ puRd ∷ purples ∷ rdBu ∷ rdGy ∷ rdPu ∷ rdYlBu ∷ rdYlGn ∷ reds ∷ spectral ∷ ylGn ∷ ylGnBu ∷ ylOrBr ∷ ylOrRd ∷ accent ∷ dark2 ∷ paired ∷ pastel1 ∷ pastel2 ∷ []
+    blues ∷ brBg ∷ buGn ∷ buPu ∷ gnBu ∷ greens ∷ greys ∷ oranges ∷ orRd ∷ piYg ∷ prGn ∷ puBu ∷ puBuGn ∷ puOr ∷ puRd ∷ purples ∷ rdBu ∷ rdGy ∷ rdPu ∷ rdYlBu ∷
+    rdYlGn ∷ reds ∷ spectral ∷ ylGn ∷ ylGnBu ∷ ylOrBr ∷ ylOrRd ∷ accent ∷ dark2 ∷ paired ∷ pastel1 ∷ pastel2 ∷ []
 
 -- no colours beyond the last number
 abbrev pub palette : ℕ → List ℕ

@@ -3,7 +3,10 @@ use mathlib.Core.Path.{_≡_, refl, sym, ap, subst}
 use mathlib.Core.Bool.{Bool, true, false}
 use native.Mathlib.Omega.{arith}
 use Rattle.refusal.specs.declared.Refusal.{Refusal}
-use Rattle.refusal.specs.declared.Refusal.the-variants.{EmptyText, NotHexColor, NotHexByte, TooFewColors, TooManyColors, NoSuchPalette, StartAboveEnd, TooManyBands, ColorCountDiffers, EmptyRange, TooManyCategories, RangeTooWide, OutputLengthDiffers, NoSuchLaneCount, ScratchTooShort, CountAboveCapacity, KeyOutOfRange, BadFlag, BadKind}
+use Rattle.refusal.specs.declared.Refusal.the-variants.{EmptyText, NotHexColor, NotHexByte, TooFewColors, TooManyColors, NoSuchPalette, StartAboveEnd}
+use Rattle.refusal.specs.declared.Refusal.the-variants.{TooManyBands, ColorCountDiffers, EmptyRange, TooManyCategories, RangeTooWide}
+use Rattle.refusal.specs.declared.Refusal.the-variants.{OutputLengthDiffers, NoSuchLaneCount, ScratchTooShort, CountAboveCapacity, KeyOutOfRange}
+use Rattle.refusal.specs.declared.Refusal.the-variants.{BadFlag, BadKind}
 use Rattle.refusal.specs.declared.Answer.{Answer}
 use Rattle.refusal.specs.declared.Answer.the-variants.{Done, Refused}
 use Rattle.refusal.specs.Outcome.{refuseIf, ifDone, firstOf}

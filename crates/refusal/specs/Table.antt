@@ -1,7 +1,10 @@
 -- The table of refusals (docs/RULES.md, "Where each call says no"): each case's number, and its index where the table names one. Definitions only.
 use Prim.Native.Nat.{ℕ}
 use Rattle.refusal.specs.declared.Refusal.{Refusal}
-use Rattle.refusal.specs.declared.Refusal.the-variants.{EmptyText, NotHexColor, NotHexByte, TooFewColors, TooManyColors, NoSuchPalette, StartAboveEnd, TooManyBands, ColorCountDiffers, EmptyRange, TooManyCategories, RangeTooWide, OutputLengthDiffers, NoSuchLaneCount, ScratchTooShort, CountAboveCapacity, KeyOutOfRange, BadFlag, BadKind}
+use Rattle.refusal.specs.declared.Refusal.the-variants.{EmptyText, NotHexColor, NotHexByte, TooFewColors, TooManyColors, NoSuchPalette, StartAboveEnd}
+use Rattle.refusal.specs.declared.Refusal.the-variants.{TooManyBands, ColorCountDiffers, EmptyRange, TooManyCategories, RangeTooWide}
+use Rattle.refusal.specs.declared.Refusal.the-variants.{OutputLengthDiffers, NoSuchLaneCount, ScratchTooShort, CountAboveCapacity, KeyOutOfRange}
+use Rattle.refusal.specs.declared.Refusal.the-variants.{BadFlag, BadKind}
 use Rattle.refusal.specs.declared.Index.{Index}
 use Rattle.refusal.specs.declared.Index.the-variants.{At, Absent}
 use Rattle.refusal.specs.declared.Answer.{Answer}

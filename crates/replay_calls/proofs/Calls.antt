@@ -30,6 +30,7 @@ module _ {count : ℕ} (word : ℕ) (text : List ℕ) (c : count ≡ atMost word
   pub text-long : count ≡ length (take count text)
   text-long = sym (length-take-le count text text-fits)
 
-pub looked-up : (entry : Float → Entry) (cmap : List ℕ) (fractions : List Float) {r : List ℕ} → length r ≡ 16 → Lanes 0 16 r (λ k. entryColor cmap (entry (getD fractions k nan))) → r ≡ lookedUp entry cmap fractions
+pub looked-up : (entry : Float → Entry) (cmap : List ℕ) (fractions : List Float) {r : List ℕ} → length r ≡ 16
+    → Lanes 0 16 r (λ k. entryColor cmap (entry (getD fractions k nan))) → r ≡ lookedUp entry cmap fractions
 unfolding lookedUp
 looked-up entry cmap fractions {r} long l = tabulated 0 16 (λ k. entryColor cmap (entry (getD fractions k nan))) r long l

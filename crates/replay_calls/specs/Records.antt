@@ -60,7 +60,8 @@ keyWords keys = tabulate 256 (λ k. lowOf (getD keys k (pos 0)))
 unfoldable pub withBands : Banded → List ℕ → List ℕ
 withBands banded row =
     let bands = banded .bands in
-    putAt 776 (map (λ (b : LegendBand). b .color) bands) (putAt 712 (floatWords (map (λ (b : LegendBand). b .end) bands)) (putAt 648 (floatWords (map (λ (b : LegendBand). b .start) bands)) row))
+    putAt 776 (map (λ (b : LegendBand). b .color) bands)
+    (putAt 712 (floatWords (map (λ (b : LegendBand). b .end) bands)) (putAt 648 (floatWords (map (λ (b : LegendBand). b .start) bands)) row))
 
 -- keys, colours, table
 unfoldable pub withCategories : CategoricNumeric → List ℕ → List ℕ

@@ -59,7 +59,8 @@ abbrev pub endOf : (row : List ℕ) → Float
 endOf row = floatOf (getD row 33 0)
 
 unfoldable pub linearOf : (row : List ℕ) → MappingConfig → MadeLegend
-linearOf row config = linearWithSettings (bySource row (linearOfRamp (startOf row) (endOf row) (cmapOf row)) (linearOfList (startOf row) (endOf row) (listOf row))) config
+linearOf row config =
+    linearWithSettings (bySource row (linearOfRamp (startOf row) (endOf row) (cmapOf row)) (linearOfList (startOf row) (endOf row) (listOf row))) config
 
 unfoldable pub equalBandsOf : (row : List ℕ) → MappingConfig → MadeLegend
 equalBandsOf row config =

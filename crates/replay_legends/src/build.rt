@@ -15,7 +15,8 @@ use replay_rows::part;
 use replay_rows::place;
 use replay_rows::value;
 ghost use mathlib.Core.Path.{_≡_};
-ghost use Rattle.replay_legends.specs.Asked.{optionalOf, rowSettings, rampOf, cmapOf, linearOf, equalBandsOf, manualRangesOf, categoriesOf, categoryRangeOf, bandsGiven, linearStored, categoriesStored, rowLegend};
+ghost use Rattle.replay_legends.specs.Asked.{optionalOf, rowSettings, rampOf, cmapOf, linearOf, equalBandsOf, manualRangesOf, categoriesOf};
+ghost use Rattle.replay_legends.specs.Asked.{categoryRangeOf, bandsGiven, linearStored, categoriesStored, rowLegend};
 
 // ---- settings and colours
 

@@ -42,7 +42,8 @@ fn values(
     nodata: Nodata,
 ) -> [u32; 40]
     requires { ⌜ count ≤ 40 ⌝ }
-    ensures { λ r. ⌜ r ≡ valueWords (borrowedLegend view (now (cmap .entry)) (now (keys .entry)) (now (colors .entry)) (now (lookup .entry))) nodata (take count samples) ⌝ }
+    ensures { λ r. ⌜ r ≡ valueWords (borrowedLegend view (now (cmap .entry)) (now (keys .entry)) (now (colors .entry)) (now (lookup .entry))) nodata
+        (take count samples) ⌝ }
 {
     let mut words = [0u32; 40];
     let mut i: usize = 0;
@@ -74,7 +75,8 @@ fn plain(
     nodata: Nodata,
 ) -> [u32; 40]
     requires { ⌜ count ≤ 40 ⌝ }
-    ensures { λ r. ⌜ r ≡ plainWords (painter (borrowedLegend view (now (cmap .entry)) (now (keys .entry)) (now (colors .entry)) (now (lookup .entry))) nodata) (samplesAs (sampleType (now (row .entry))) count (now (row .entry))) ⌝ }
+    ensures { λ r. ⌜ r ≡ plainWords (painter (borrowedLegend view (now (cmap .entry)) (now (keys .entry)) (now (colors .entry)) (now (lookup .entry))) nodata)
+        (samplesAs (sampleType (now (row .entry))) count (now (row .entry))) ⌝ }
 {
     match row[place::SAMPLE_TYPE] {
         0 => raster_f32::plain(view, cmap, keys, colors, lookup, row, count, nodata),
@@ -95,7 +97,8 @@ fn lanes(
     nodata: Nodata,
 ) -> LaneWords
     requires { ⌜ count ≤ 40 ⌝ }
-    ensures { λ r. ⌜ r ≡ laneWords lanes (painter (borrowedLegend view (now (cmap .entry)) (now (keys .entry)) (now (colors .entry)) (now (lookup .entry))) nodata) (samplesAs (sampleType (now (row .entry))) count (now (row .entry))) ⌝ }
+    ensures { λ r. ⌜ r ≡ laneWords lanes (painter (borrowedLegend view (now (cmap .entry)) (now (keys .entry)) (now (colors .entry)) (now (lookup .entry)))
+        nodata) (samplesAs (sampleType (now (row .entry))) count (now (row .entry))) ⌝ }
 {
     match row[place::SAMPLE_TYPE] {
         0 => raster_f32::lanes(view, cmap, keys, colors, lookup, lanes, row, count, nodata),

@@ -22,7 +22,8 @@ pub fn plain(
     nodata: Nodata,
 ) -> [u32; 40]
     requires { ⌜ count ≤ 40 ⌝ }
-    ensures { λ r. ⌜ r ≡ plainWords (painter (borrowedLegend view (now (cmap .entry)) (now (keys .entry)) (now (colors .entry)) (now (lookup .entry))) nodata) (samplesAs 1 count (now (row .entry))) ⌝ }
+    ensures { λ r. ⌜ r ≡ plainWords (painter (borrowedLegend view (now (cmap .entry)) (now (keys .entry)) (now (colors .entry)) (now (lookup .entry))) nodata)
+        (samplesAs 1 count (now (row .entry))) ⌝ }
 {
     let samples = part::bytes(row, place::SAMPLES);
     let mut words = [0u32; 40];
@@ -51,7 +52,8 @@ pub fn lanes(
     nodata: Nodata,
 ) -> LaneWords
     requires { ⌜ count ≤ 40 ⌝ }
-    ensures { λ r. ⌜ r ≡ laneWords lanes (painter (borrowedLegend view (now (cmap .entry)) (now (keys .entry)) (now (colors .entry)) (now (lookup .entry))) nodata) (samplesAs 1 count (now (row .entry))) ⌝ }
+    ensures { λ r. ⌜ r ≡ laneWords lanes (painter (borrowedLegend view (now (cmap .entry)) (now (keys .entry)) (now (colors .entry)) (now (lookup .entry)))
+        nodata) (samplesAs 1 count (now (row .entry))) ⌝ }
 {
     let samples = part::bytes(row, place::SAMPLES);
     let mut words = [0u32; 40];

@@ -18,7 +18,8 @@ minus-pos zero = refl
 minus-pos (suc n) = let e : 0 + n ≡ n = omega arith in ap (λ (m : ℕ). negsuc (suc m)) e
 
 minus-neg : (n : ℕ) → negsuc 0 -ℤ negsuc n ≡ pos n
-minus-neg n = let e : suc n - 1 ≡ n = omega arith in ap (λ (t : Bool). cond t (negsuc (1 - suc (suc n))) (pos (suc n - 1))) (le-ltb (suc n) 1 (omega arith)) ∙ ap pos e
+minus-neg n =
+    let e : suc n - 1 ≡ n = omega arith in ap (λ (t : Bool). cond t (negsuc (1 - suc (suc n))) (pos (suc n - 1))) (le-ltb (suc n) 1 (omega arith)) ∙ ap pos e
 
 -- where n and -1 - n fit in so many bits
 pub minus-fits : (w : Width) (n : ℕ) → n < 2 ^ hbits w → SFits w (negsuc 0 -ℤ toZ w n)

@@ -3,7 +3,9 @@ use Prim.Native.Nat.{ℕ, zero, suc, min, _+_, _-_, _*_, _/_, _%_, _^_, _≤_, _
 use mathlib.Core.Path.{_≡_, refl, sym, ap, _∙_, subst}
 use mathlib.Core.Logic.{_⊎_, inl, inr, ⊎-elim}
 use mathlib.Core.Bool.{Bool, true, false, not, cond, _&&_, _||_, Bool·beq}
-use native.Mathlib.Nat.{le-trans, le-of-eq, lt-of-lt-of-le, lt-of-le-of-lt, lt-of-not-le, lt-irrefl, div-eq-of-lt, mul-comm, mul-assoc, mul-right-comm, mul-pos, mul-le-mul-right, mul-lt-mul-of-pos-right, mul-div-cancel, mul-mod-left, le-div-iff-mul-le, div-lt-iff-lt-mul, add-mul-div-right, div-add-mod', div-div-eq-div-mul, add-mul-mod-self-right}
+use native.Mathlib.Nat.{le-trans, le-of-eq, lt-of-lt-of-le, lt-of-le-of-lt, lt-of-not-le, lt-irrefl, div-eq-of-lt, mul-comm, mul-assoc, mul-right-comm}
+use native.Mathlib.Nat.{mul-pos, mul-le-mul-right, mul-lt-mul-of-pos-right, mul-div-cancel, mul-mod-left, le-div-iff-mul-le, div-lt-iff-lt-mul}
+use native.Mathlib.Nat.{add-mul-div-right, div-add-mod', div-div-eq-div-mul, add-mul-mod-self-right}
 use native.Mathlib.Omega.{arith}
 use lib.Pow.{pow-add, pow-pos, pow-mono, shl-lt, shl-shr}
 use lib.Dec.{T, lt→ltb, eqb→eq, lit≤, lit<, leb, ltb, eqb, leb→le, nleb→lt, ltb→lt}
@@ -239,7 +241,8 @@ lane-sum m e =
 half-num : (a d : ℕ) → a * 2 + 268435457 * 1 * d ≡ a * 2 + d + 2 ^ 27 * (d * 2)
 half-num a d = omega arith
 
-half-sum : (m : ℕ) (e : ℤ) → add binary64 (fin false m e) (fin false 268435457 (negsuc 0)) ≡ round binary64 false (m * up e * 2 + down e + 2 ^ 27 * (down e * 2)) (down e * 2)
+half-sum : (m : ℕ) (e : ℤ) → add binary64 (fin false m e) (fin false 268435457 (negsuc 0))
+    ≡ round binary64 false (m * up e * 2 + down e + 2 ^ 27 * (down e * 2)) (down e * 2)
 unfolding add sum
 half-sum m e = ap (λ (n : ℕ). round binary64 false n (down e * 2)) (half-num (m * up e) (down e))
 
@@ -270,7 +273,8 @@ lane-neg m e h =
 half-neg-num : (d : ℕ) → 268435457 * 1 * d ≡ d + 2 ^ 27 * (d * 2)
 half-neg-num d = omega arith
 
-half-neg : (m : ℕ) (e : ℤ) → m * up e * 2 ≡ 0 → add binary64 (fin true m e) (fin false 268435457 (negsuc 0)) ≡ round binary64 false (down e + 2 ^ 27 * (down e * 2)) (down e * 2)
+half-neg : (m : ℕ) (e : ℤ) → m * up e * 2 ≡ 0 → add binary64 (fin true m e) (fin false 268435457 (negsuc 0))
+    ≡ round binary64 false (down e + 2 ^ 27 * (down e * 2)) (down e * 2)
 unfolding add
 half-neg m e h =
     neg-sum (m * up e * 2) (268435457 * 1 * down e) (down e * 2) h (posC (down e) (down-pos e))
@@ -283,7 +287,8 @@ half-neg m e h =
 neg-zero : (m : ℕ) (e : ℤ) → T (le (fin false 0 (pos 0)) (fin true m e)) → m * up e ≡ 0
 unfolding le lt eq
 neg-zero m e h =
-    tidy (down e) (m * up e) (eqb→eq (0 * 1 * down e) (m * up e * 1) (and-l (eqb (0 * 1 * down e) (m * up e * 1)) (Bool·beq false true || eqb (0 * 1 * down e) 0) h))
+    tidy (down e) (m * up e)
+    (eqb→eq (0 * 1 * down e) (m * up e * 1) (and-l (eqb (0 * 1 * down e) (m * up e * 1)) (Bool·beq false true || eqb (0 * 1 * down e) 0) h))
   where
     tidy : (d a : ℕ) → 0 * 1 * d ≡ a * 1 → a ≡ 0
     tidy d a h = omega arith
@@ -335,7 +340,8 @@ whole-is (fin false m e) f a b =
     let h : m * up e < 1024 * down e = below-1024 m e b in
     ap (λ (x : Float). toBits binary64 x / 2 ^ 25 % 1024) (lane-sum m e)
     ∙ final (m * up e) (down e) (down-pos e) h
-    (⊎-elim (λ (x : m * up e * 2 ^ 25 % down e ≡ 0). inl x) (λ (x : m * up e * 4 < down e). inr (quarter-three (m * up e) (down e) x)) (parts m e (small-digits false m e f)))
+    (⊎-elim (λ (x : m * up e * 2 ^ 25 % down e ≡ 0). inl x) (λ (x : m * up e * 4 < down e). inr (quarter-three (m * up e) (down e) x))
+    (parts m e (small-digits false m e f)))
 
 -- ---- halves up
 
@@ -348,7 +354,8 @@ unfolding le lt eq
 upto-255 m e h =
     ⊎-elim
     (λ (x : T (ltb (m * up e * 1) (255 * 1 * down e))). less (m * up e) (down e) (ltb→lt (m * up e * 1) (255 * 1 * down e) x))
-    (λ (x : T (eqb (m * up e * 1) (255 * 1 * down e) && (Bool·beq false false || eqb (m * up e * 1) 0))). same (m * up e) (down e) (eqb→eq (m * up e * 1) (255 * 1 * down e) (and-l (eqb (m * up e * 1) (255 * 1 * down e)) (Bool·beq false false || eqb (m * up e * 1) 0) x)))
+    (λ (x : T (eqb (m * up e * 1) (255 * 1 * down e) && (Bool·beq false false || eqb (m * up e * 1) 0))). same (m * up e) (down e)
+    (eqb→eq (m * up e * 1) (255 * 1 * down e) (and-l (eqb (m * up e * 1) (255 * 1 * down e)) (Bool·beq false false || eqb (m * up e * 1) 0) x)))
     (or-cases (ltb (m * up e * 1) (255 * 1 * down e)) (eqb (m * up e * 1) (255 * 1 * down e) && (Bool·beq false false || eqb (m * up e * 1) 0)) h)
   where
     less : (a d : ℕ) → a * 1 < 255 * 1 * d → a ≤ 255 * d
@@ -416,4 +423,5 @@ half-is (fin false m e) f a b =
     let h : m * up e ≤ 255 * down e = upto-255 m e b in
     ap (λ (x : Float). toBits binary64 x / 2 ^ 25 % 1024) (half-sum m e)
     ∙ final (m * up e * 2 + down e) (down e * 2) (twice (down e) (down-pos e)) (half-room (m * up e) (down e) (down-pos e) h)
-    (⊎-elim (λ (x : m * up e * 2 ^ 25 % down e ≡ 0). inl (half-exact (m * up e) (down e) x)) (λ (x : m * up e * 4 < down e). inr (half-close (m * up e) (down e) x)) (parts m e (small-digits false m e f)))
+    (⊎-elim (λ (x : m * up e * 2 ^ 25 % down e ≡ 0). inl (half-exact (m * up e) (down e) x))
+    (λ (x : m * up e * 4 < down e). inr (half-close (m * up e) (down e) x)) (parts m e (small-digits false m e f)))

@@ -17,7 +17,8 @@ fn read_word(fd: i32) -> u32 {
 
 // Compares a row with what we make of it.
 fn compare(number: u64, row: &[u32; 1680], rows: &mut [u64; 13], differ: &mut [u64; 13])
-    ensures { λ _. ⌜ (now (rows .exit) ≡ tallied (rowKind (getD (now (row .entry)) 0 0)) (now (rows .entry))) × (now (differ .exit) ≡ differing (now (row .entry)) (now (differ .entry))) ⌝ }
+    ensures { λ _. ⌜ (now (rows .exit) ≡ tallied (rowKind (getD (now (row .entry)) 0 0)) (now (rows .entry)))
+        × (now (differ .exit) ≡ differing (now (row .entry)) (now (differ .entry))) ⌝ }
 {
     let at = replay_worked::difference(row);
     let kind = tally::kind_of(row[0]);

@@ -21,7 +21,8 @@ pub fn is_same(kind: usize, at: usize) -> bool
 // One more row of a kind.
 pub fn note(kind: usize, same: bool, rows: &mut [u64; 13], differ: &mut [u64; 13])
     requires { ⌜ kind < 13 ⌝ }
-    ensures { λ _. ⌜ (now (rows .exit) ≡ tallied kind (now (rows .entry))) × (now (differ .exit) ≡ cond same (now (differ .entry)) (tallied kind (now (differ .entry)))) ⌝ }
+    ensures { λ _. ⌜ (now (rows .exit) ≡ tallied kind (now (rows .entry)))
+        × (now (differ .exit) ≡ cond same (now (differ .entry)) (tallied kind (now (differ .entry)))) ⌝ }
 {
     rows[kind] = std::num::wrapping_add_u64(rows[kind], 1);
     if !same {

@@ -15,7 +15,9 @@ compute-unmappable-colors-requires : tie.Need-compute-unmappable-colors-requires
 compute-unmappable-colors-requires c κs = search needs
 
 returns : tie.Need-returns
-returns c = c .compute-unmappable-colors .ensures ∙ ap₂ (unmappableColors (c .before .before .before .before .args .config)) (c .before .before .first-color .ensures) (c .before .last-color .ensures)
+returns c =
+    c .compute-unmappable-colors .ensures ∙ ap₂ (unmappableColors (c .before .before .before .before .args .config)) (c .before .before .first-color .ensures)
+    (c .before .last-color .ensures)
 
 pub unmappable-colors-spec : {M : Type 1} → statement M
 unmappable-colors-spec =

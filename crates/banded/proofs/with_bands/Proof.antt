@@ -18,5 +18,7 @@ unfolding code.routine tablesOf
 with-bands-spec 𝓤 H 𝓜 𝓖 𝓡 =
     entered 𝓤 H (Folds B.the-type B′.the-laws B′.the-plain (λ _. tt) (λ _ _. refl) withBand #banded·with-band 𝓤 H (𝓖 .A))
     (tables 𝓤 H 𝓜 𝓡 code.env .C) (tables 𝓤 H 𝓜 𝓡 code.env .Λ) #banded·with-bands code.function (code.unfolded 𝓤 H 𝓜 𝓡)
-    (folds-meets B.the-type B′.the-laws B′.the-plain (λ _. tt) (λ _ _. refl) withBand #banded·with-band 𝓤 H (𝓖 .A) (givenOf 𝓤 H 𝓜 𝓖) (tablesOf 𝓤 H 𝓜 (tables 𝓤 H 𝓜 𝓡 code.env))
-    (cited 𝓤 H (Steps B.the-type B′.the-laws B′.the-plain (λ _. tt) (λ _ _. refl) withBand #banded·with-band 𝓤 H (𝓖 .A)) 𝓜 𝓡 code.env #banded·with-band step-def.routine code.calls-banded·with-band (step-thm.met 𝓤 H 𝓜 𝓖 𝓡)))
+    (folds-meets B.the-type B′.the-laws B′.the-plain (λ _. tt) (λ _ _. refl) withBand #banded·with-band 𝓤 H (𝓖 .A) (givenOf 𝓤 H 𝓜 𝓖)
+    (tablesOf 𝓤 H 𝓜 (tables 𝓤 H 𝓜 𝓡 code.env))
+    (cited 𝓤 H (Steps B.the-type B′.the-laws B′.the-plain (λ _. tt) (λ _ _. refl) withBand #banded·with-band 𝓤 H (𝓖 .A)) 𝓜 𝓡 code.env #banded·with-band
+    step-def.routine code.calls-banded·with-band (step-thm.met 𝓤 H 𝓜 𝓖 𝓡)))

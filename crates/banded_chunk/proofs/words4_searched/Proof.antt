@@ -1,7 +1,7 @@
--- `words4_searched` meets its contract: what stands at the lanes' places is the scan. Assumes nothing.
+-- `words4_searched` meets its contract: what stands at the lanes' indices is the scan. Assumes nothing.
 use borrow.Author.Needs.{needs}
 use native.Mathlib.Omega.{arith}
-use Rattle.banded_search.proofs.ScanByIndices.{scan-at-places}
+use Rattle.banded_search.proofs.ScanByIndices.{scan-at-indices}
 use Rattle.banded_chunk.proofs.MaskedWords.{lane-words}
 use Rattle.banded_chunk.proofs.words4_searched.Statement.{statement}
 use Rattle.banded_chunk.proofs.words4_searched.Tie as tie
@@ -11,14 +11,17 @@ apply-lane-edges-requires c κs =
     let s = c .before .before .before in (
       omega arith,
       s .pre .0,
-      scan-at-places _ _ _ _ _ 4 _ (s .pre .1 .some) (s .pre .1 .ordered) (omega arith) (omega arith) (search needs)
+      scan-at-indices _ _ _ _ _ 4 _ (s .pre .1 .some) (s .pre .1 .ordered) (omega arith) (omega arith) (search needs)
           (c .before .before .band-indices .ensures) (c .before .colors-at .ensures) (c .all-held .ensures),
     )
 
 returns : tie.Need-returns
 returns c =
-    let s = c .before .before .before .before .before in
-    lane-words 4 _ (s .args .p) (s .args .v) (search (needs, s .good .1 .1 .1 .1)) (omega arith) (c .masked-simd .ensures) (c .before .apply-lane-edges .ensures)
+    let s4 = c .before .before .before .before in
+    let s5 = s4 .before in
+    let s = s5 in
+    lane-words 4 _ (s .args .p) (s .args .v) (search (needs, s .good .1 .1 .1 .1)) (omega arith) (c .masked-simd .ensures)
+    (c .before .apply-lane-edges .ensures)
 
 pub words4-searched-spec : {M : Type 1} → statement M
 words4-searched-spec =

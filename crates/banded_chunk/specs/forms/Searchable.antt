@@ -1,5 +1,5 @@
 -- A form of the code: where the lanes of a chunk may be coloured by a search for their bands; the search is proved equal to the scan in
--- banded_search/proofs/ScanByIndices.antt (scan-at-places). Definitions only.
+-- banded_search/proofs/ScanByIndices.antt (scan-at-indices). Definitions only.
 use Prim.Native.Nat.{ℕ, _<_}
 use mathlib.Core.Path.{_≡_}
 use mathlib.Core.Bool.{true}

@@ -25,7 +25,11 @@ array-copy-out-last : tie.Need-array-copy-out-last
 array-copy-out-last c = search needs
 
 returns-2 : tie.Need-returns-2
-returns-2 c = let g : length (c .before .before .before .args .t1) ≡ 64 = search needs in ap (λ (k : ℕ). getD (c .before .before .before .args .t1) (k - 1) noBand .color) (c .before .at-most-64 .ensures) ∙ sym (last-at noBand (c .before .before .before .args .other) 64 (c .before .before .before .args .count) (c .before .before .before .args .t1) (omega arith) (omega arith) g)
+returns-2 c =
+    let g : length (c .before .before .before .args .t1) ≡ 64 = search needs in ap (λ (k : ℕ). getD (c .before .before .before .args .t1) (k - 1) noBand .color)
+    (c .before .at-most-64 .ensures)
+    ∙ sym (last-at noBand (c .before .before .before .args .other) 64 (c .before .before .before .args .count) (c .before .before .before .args .t1)
+    (omega arith) (omega arith) g)
 
 pub last-color-spec : {M : Type 1} → statement M
 last-color-spec =

@@ -50,9 +50,12 @@ element-write-inside c = search needs
 
 loop-again : tie.Need-loop-again Inv-loop μ-loop
 loop-again c =
-    let s = c .before .before .before .before .before .before .before in
+    let s4 = c .before .before .before .before in
+    let s6 = s4 .before .before in
+    let s7 = s6 .before in
+    let s = s7 in
     let a = s .args in
-    let l = c .before .before .before .before .before .before .loop in
+    let l = s6 .loop in
     let held = c .before .before .before .holds .ensures in
     let entered = ap₂ (λ (x y : Bool). x || y) (l .inv .1 .rest (l .i) (omega arith)) held in
     let word = c .before .pick .ensures ∙ ap₂ (λ (t : Bool) (w : ℕ). cond t (a .band .color) w) held (l .inv .0 .rest (l .i) (omega arith)) in (

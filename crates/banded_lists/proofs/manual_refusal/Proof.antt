@@ -18,11 +18,25 @@ returns-2 c = simp (← c .before .first-empty .ensures, le-ltb _ _ (c .before .
 
 returns-3 : tie.Need-returns-3
 unfolding manualRefusal
-returns-3 c = simp (← c .before .before .first-empty .ensures, le-ltb _ _ (c .before .before .before .before .if1 .left), le-ltb _ _ (c .before .if2 .left), ne-eqb _ _ (c .if3 .taken))
+returns-3 c =
+    simp (
+      ← c .before .before .first-empty .ensures,
+      le-ltb _ _ (c .before .before .before .before .if1 .left),
+      le-ltb _ _ (c .before .if2 .left),
+      ne-eqb _ _
+          (c .if3 .taken),
+    )
 
 returns-4 : tie.Need-returns-4
 unfolding manualRefusal
-returns-4 c = simp (← c .before .before .first-empty .ensures, le-ltb _ _ (c .before .before .before .before .if1 .left), le-ltb _ _ (c .before .if2 .left), eq-eqb _ _ (c .if3 .left))
+returns-4 c =
+    simp (
+      ← c .before .before .first-empty .ensures,
+      le-ltb _ _ (c .before .before .before .before .if1 .left),
+      le-ltb _ _ (c .before .if2 .left),
+      eq-eqb _ _
+          (c .if3 .left),
+    )
 
 pub manual-refusal-spec : {M : Type 1} → statement M
 manual-refusal-spec =

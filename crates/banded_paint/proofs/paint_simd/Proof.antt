@@ -44,24 +44,32 @@ sub-loop c = search needs
 
 chunk-searched-requires : tie.Need-chunk-searched-requires Inv-loop μ-loop
 chunk-searched-requires c κs =
-    let b = c .before .before .before .before .before in
+    let s4 = c .before .before .before .before in
+    let s5 = s4 .before in
+    let b = s5 in
     let s = b .before .before .before in
     (search needs, both-asked (b .ascending-disjoint .ensures _) (c .before .if1 .taken), s .pre .1, omega arith, omega arith)
 
 chunk-requires : tie.Need-chunk-requires Inv-loop μ-loop
 chunk-requires c κs =
-    let s8 = c .before .before .before .before .before .before .before .before in
+    let st4 = c .before .before .before .before in
+    let st8 = st4 .before .before .before .before in
+    let s8 = st8 in
     (search needs, s8 .pre .1, omega arith, omega arith)
 
 loop-less : tie.Need-loop-less Inv-loop μ-loop
 loop-less c =
-    let s7 = c .before .before .before .before .before .before .before in
+    let st4 = c .before .before .before .before in
+    let st7 = st4 .before .before .before in
+    let s7 = st7 in
     omega (arith, lane-sizes (s7 .args .l) (s7 .pre .1) .0)
 
 loop-again : tie.Need-loop-again Inv-loop μ-loop
 loop-again c =
     let l = c .before .before in
-    let s = l .before .before .before .before .before in
+    let s4 = l .before .before .before .before in
+    let s5 = s4 .before in
+    let s = s5 in
     chunk-turn (l .loop .inv) (lane-sizes _ (s .pre .1) .0) (omega arith)
     (λ xs. length-masked _ _ xs _ (lane-length _ _ xs))
     (⊎-elim (λ w. w .5 ∙ w .2 .ensures) (λ w. w .5 ∙ w .2 .ensures) (c .if1 .came))
@@ -82,7 +90,9 @@ same-length c = search needs
 
 returns : tie.Need-returns Inv-loop μ-loop
 returns c =
-    let s5 = c .before .before .before .before .before in
+    let st4 = c .before .before .before .before in
+    let st5 = st4 .before in
+    let s5 = st5 in
     c .before .before .rest .ensures ∙ chunks-end (s5 .loop .inv) (omega arith)
 
 pub paint-simd-spec : {M : Type 1} → statement M

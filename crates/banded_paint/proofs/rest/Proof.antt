@@ -12,7 +12,9 @@ returns c = let a = c .before .before .before .args in rest-none _ (a .src .now)
 returns-2 : tie.Need-returns-2
 returns-2 c =
     let s = c .before .before .before .before in
-    let a = s .before .before .before .before .before .args in
+    let s4 = s .before .before .before .before in
+    let s5 = s4 .before in
+    let a = s5 .args in
     rest-lanes (a .src .now) (a .out .now) (a .base) _ (omega arith) (omega arith) (omega arith) (s .before .load .ensures) (c .before .before .store .ensures)
     _ (s .words .ensures)
 

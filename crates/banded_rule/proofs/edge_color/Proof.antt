@@ -23,7 +23,20 @@ pick-requires-4 : tie.Need-pick-requires-4
 pick-requires-4 c κs = search needs
 
 returns : tie.Need-returns
-returns c = simp (c .pick4 .ensures, c .before .is-within2 .ensures, c .before .before .pick3 .ensures, c .before .before .before .before .pick2 .ensures, c .before .before .before .before .before .is-within .ensures, c .before .before .before .before .before .before .pick .ensures, edge-chain (c .before .before .before .before .before .before .before .before .args .u) (c .before .before .before .before .before .before .before .before .args .first) (c .before .before .before .before .before .before .before .before .args .last) (c .before .before .before .before .before .before .before .before .args .value))
+returns c =
+    let s4 = c .before .before .before .before in
+    let s5 = s4 .before in
+    let s6 = s5 .before in
+    let s8 = s6 .before .before in
+    simp (
+      c .pick4 .ensures,
+      c .before .is-within2 .ensures,
+      c .before .before .pick3 .ensures,
+      c .before .before .before .before .pick2 .ensures,
+      s5 .is-within .ensures,
+      s6 .pick .ensures,
+      edge-chain (s8 .args .u) (s8 .args .first) (s8 .args .last) (s8 .args .value),
+    )
 
 pub edge-color-spec : {M : Type 1} → statement M
 edge-color-spec =

@@ -54,7 +54,8 @@ returns c =
     let a = c .before .before .args in
     let l = c .before .loop in
     λ k q. let e : l .i ≡ 0 = omega arith in l .inv .1 k q
-    ∙ ap (λ (j : ℕ). firstColor (drop j (fromColumns (a .starts .now) (a .ends .now) (a .colors .now) (a .count))) (getD (a .value) k nan) (getD (a .otherwise) k 0))
+    ∙ ap (λ (j : ℕ). firstColor (drop j (fromColumns (a .starts .now) (a .ends .now) (a .colors .now) (a .count))) (getD (a .value) k nan)
+    (getD (a .otherwise) k 0))
     e
 
 pub first-colors-spec : {M : Type 1} → statement M

@@ -1,4 +1,5 @@
--- A form of the code: the plain rule's bands, then its edges, by their colours. That these are `plainColor` is proofs/Forms.antt (plain-form). Definitions only.
+-- A form of the code: the plain rule's bands, then its edges, by their colours. That these are `plainColor` is proofs/Forms.antt (plain-form). Definitions
+-- only.
 use Prim.Native.Nat.{ℕ}
 use mathlib.Core.Bool.{cond}
 use mathlib.Core.List.{List, [], _∷_}

@@ -14,20 +14,20 @@ use Rattle.banded_search.proofs.all_held.Statement.{statement}
 use Rattle.banded_search.proofs.all_held.Tie as tie
 
 abbrev Inv-loop : tie.InvT-loop
-Inv-loop lanes starts ends places value all₀ i₀ all i = (i ≤ lanes) × (all ≡ allBelow i (λ k. heldAt starts ends (getD places k 0) (getD value k nan)))
+Inv-loop lanes starts ends indices value all₀ i₀ all i = (i ≤ lanes) × (all ≡ allBelow i (λ k. heldAt starts ends (getD indices k 0) (getD value k nan)))
 
 abbrev μ-loop : tie.MeasureT-loop
-μ-loop lanes starts ends places value all₀ i₀ all i = lanes - i
+μ-loop lanes starts ends indices value all₀ i₀ all i = lanes - i
 
 loop-holds : tie.Need-loop-holds Inv-loop μ-loop
 unfolding allBelow
 loop-holds c = (omega arith, refl)
 
-array-read-place : tie.Need-array-read-place Inv-loop μ-loop
-array-read-place c = search needs
+array-read-index : tie.Need-array-read-index Inv-loop μ-loop
+array-read-index c = search needs
 
-cast-place : tie.Need-cast-place Inv-loop μ-loop
-cast-place c = search needs
+cast-index : tie.Need-cast-index Inv-loop μ-loop
+cast-index c = search needs
 
 mul-all : tie.Need-mul-all Inv-loop μ-loop
 mul-all c = omega (arith, c .before .before .pre .1 (c .before .loop .i) (omega arith))
@@ -67,5 +67,5 @@ returns c =
 pub all-held-spec : {M : Type 1} → statement M
 all-held-spec =
     tie.close
-    (tie.spec Inv-loop μ-loop loop-holds (λ c. search needs) array-read-place cast-place mul-all element-copy-out-all (λ c. search needs)
+    (tie.spec Inv-loop μ-loop loop-holds (λ c. search needs) array-read-index cast-index mul-all element-copy-out-all (λ c. search needs)
     array-read-all (λ c. search needs) array-read-all-2 mul-all-4 element-copy-out-all-2 (λ c. search needs) (λ c. search needs) loop-again returns)

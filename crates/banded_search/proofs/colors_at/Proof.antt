@@ -1,4 +1,4 @@
--- `colors_at` meets its contract: the loop fills each place with the colour that stands at the lane's place. Assumes nothing.
+-- `colors_at` meets its contract: the loop fills each index with the colour that stands at the lane's index. Assumes nothing.
 use borrow.Author.Needs.{needs}
 use Prim.Native.Nat.{_-_}
 use native.Mathlib.Omega.{arith}
@@ -11,20 +11,20 @@ use Rattle.banded_search.proofs.colors_at.Statement.{statement}
 use Rattle.banded_search.proofs.colors_at.Tie as tie
 
 abbrev Inv-loop : tie.InvT-loop
-Inv-loop lanes starts ends colors places value otherwise result₀ i₀ result i =
-    Storing 0 (λ k. colorAt starts ends colors (getD places k 0) (getD value k nan) (getD otherwise k 0)) 16 lanes i result
+Inv-loop lanes starts ends colors indices value otherwise result₀ i₀ result i =
+    Storing 0 (λ k. colorAt starts ends colors (getD indices k 0) (getD value k nan) (getD otherwise k 0)) 16 lanes i result
 
 abbrev μ-loop : tie.MeasureT-loop
-μ-loop lanes starts ends colors places value otherwise result₀ i₀ result i = lanes - i
+μ-loop lanes starts ends colors indices value otherwise result₀ i₀ result i = lanes - i
 
 loop-holds : tie.Need-loop-holds Inv-loop μ-loop
 loop-holds c = storing-start
 
-array-read-place : tie.Need-array-read-place Inv-loop μ-loop
-array-read-place c = search needs
+array-read-index : tie.Need-array-read-index Inv-loop μ-loop
+array-read-index c = search needs
 
-cast-place : tie.Need-cast-place Inv-loop μ-loop
-cast-place c = search needs
+cast-index : tie.Need-cast-index Inv-loop μ-loop
+cast-index c = search needs
 
 mul-held : tie.Need-mul-held Inv-loop μ-loop
 mul-held c = omega (arith, c .before .before .pre .1 (c .before .loop .i) (omega arith))
@@ -61,7 +61,9 @@ array-write-result c = search needs
 
 loop-again : tie.Need-loop-again Inv-loop μ-loop
 loop-again c =
-    let s5 = c .before .before .before .before .before in
+    let st4 = c .before .before .before .before in
+    let st5 = st4 .before in
+    let s5 = st5 in
     storing-turn (s5 .loop .inv) (omega arith) (omega arith) (c .pick .ensures)
 
 returns : tie.Need-returns Inv-loop μ-loop
@@ -70,6 +72,6 @@ returns c = lanes-stored (c .before .loop .inv) (omega arith)
 pub colors-at-spec : {M : Type 1} → statement M
 colors-at-spec =
     tie.close
-    (tie.spec Inv-loop μ-loop loop-holds (λ c. search needs) array-read-place cast-place mul-held element-copy-out-held (λ c. search needs)
+    (tie.spec Inv-loop μ-loop loop-holds (λ c. search needs) array-read-index cast-index mul-held element-copy-out-held (λ c. search needs)
     array-read-held (λ c. search needs) array-read-held-2 mul-held-4 element-copy-out-held-2 mul-pick element-copy-out-pick (λ c. search needs)
     array-read-pick pick-requires (λ c. search needs) array-write-result (λ c. search needs) (λ c. search needs) loop-again returns)

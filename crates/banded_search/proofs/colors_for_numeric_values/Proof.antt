@@ -1,4 +1,4 @@
--- `colors_for_numeric_values` meets its contract: the colour at the counted place over that of the edges is the plain rule. Assumes nothing.
+-- `colors_for_numeric_values` meets its contract: the colour at the counted index over that of the edges is the plain rule. Assumes nothing.
 use borrow.Author.Needs.{needs}
 use mathlib.Core.Path.{sym, _∙_}
 use native.Mathlib.Omega.{arith}
@@ -6,7 +6,7 @@ use lib.Ieee.{nan}
 use lib.ListN.{getD, length-replicate, getD-replicate}
 use Rattle.lists.proofs.LanesOf.{lane-at, lanes-agree, lanes-all}
 use Rattle.banded_rule.proofs.Forms.{plain-none}
-use Rattle.banded_search.proofs.OneBand.{plain-at-place}
+use Rattle.banded_search.proofs.OneBand.{plain-at-index}
 use Rattle.banded_search.proofs.colors_for_numeric_values.Statement.{statement}
 use Rattle.banded_search.proofs.colors_for_numeric_values.Tie as tie
 
@@ -20,11 +20,13 @@ returns c =
 
 returns-2 : tie.Need-returns-2
 returns-2 c =
-    let s = c .before .before .before .before .before .before in
+    let s4 = c .before .before .before .before in
+    let s6 = s4 .before .before in
+    let s = s6 in
     let a = s .args in
     lanes-agree (c .colors-at .ensures)
     (λ k q.
-    plain-at-place (a .starts .now) (a .ends .now) (a .colors .now) (a .count) (a .u) (getD (a .value) k nan) (omega arith) (s .pre .1)
+    plain-at-index (a .starts .now) (a .ends .now) (a .colors .now) (a .count) (a .u) (getD (a .value) k nan) (omega arith) (s .pre .1)
     (lane-at (c .before .band-indices .ensures .counted) 0 k q)
     (c .before .before .before .before .band-at .ensures) (c .before .before .before .band-at2 .ensures) (c .before .before .edge-colors .ensures k q))
 

@@ -1,5 +1,5 @@
 -- A form of the code: the index of the one band that can hold a sample, found by counting. That it gives `plainColor` is proofs/OneBand.antt
--- (plain-at-place), and the lane rule's scan proofs/ScanByIndices.antt (scan-at-places). Definitions only.
+-- (plain-at-index), and the lane rule's scan proofs/ScanByIndices.antt (scan-at-indices). Definitions only.
 use Prim.Native.Nat.{ℕ, zero, suc, _+_, _<_}
 use mathlib.Core.Bool.{Bool, cond, _&&_}
 use mathlib.Core.List.{List}

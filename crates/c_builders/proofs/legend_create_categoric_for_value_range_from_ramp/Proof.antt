@@ -25,7 +25,11 @@ made-to-c-requires : tie.Need-made-to-c-requires
 made-to-c-requires c κs = search needs
 
 returns : tie.Need-returns
-returns c = let s = c .before .before .before .before in with-both madeToC (c .made-to-c .ensures) (c .before .settings-refusal .ensures) (c .before .before .create-categoric-for-value-range-from-ramp .ensures ∙ (λ j. categoricWithSettings (back₂ (λ a b. forValueRangeFromRamp a b (s .args .ramp .now)) (s .args .start) (s .args .end) (s .fits .start .sfits) (s .fits .end .sfits) j) (c .before .before .before .settings-from-c .ensures j)))
+returns c =
+    let s = c .before .before .before .before in with-both madeToC (c .made-to-c .ensures) (c .before .settings-refusal .ensures)
+    (c .before .before .create-categoric-for-value-range-from-ramp .ensures
+    ∙ (λ j. categoricWithSettings (back₂ (λ a b. forValueRangeFromRamp a b (s .args .ramp .now)) (s .args .start) (s .args .end) (s .fits .start .sfits)
+    (s .fits .end .sfits) j) (c .before .before .before .settings-from-c .ensures j)))
 
 pub legend-create-categoric-for-value-range-from-ramp-spec : {M : Type 1} → statement M
 legend-create-categoric-for-value-range-from-ramp-spec =

@@ -43,7 +43,8 @@ returns-3 : tie.Need-returns-3
 returns-3 c = let s = c .before .before .before .before in sym (edge (s .args .x) (held s) (c .if4 .taken))
 
 returns-4 : tie.Need-returns-4
-returns-4 c = let s = c .before .before .before .before in sym (large (s .args .x) (held s) (omega (arith, field-is (toBits binary32 (s .args .x)))) (c .if4 .left))
+returns-4 c =
+    let s = c .before .before .before .before in sym (large (s .args .x) (held s) (omega (arith, field-is (toBits binary32 (s .args .x)))) (c .if4 .left))
 
 magnitude-requires : tie.Need-magnitude-requires
 magnitude-requires c κs = let s = c .before .before .before in omega (arith, field-is (toBits binary32 (s .args .x)))
@@ -56,21 +57,27 @@ sub-t9 c = less-fits (c .before .magnitude .result) (c .before .magnitude .ensur
 
 returns-5 : tie.Need-returns-5
 returns-5 c =
-    let s = c .before .before .before .before .before in
+    let s4 = c .before .before .before .before in
+    let s5 = s4 .before in
+    let s = s5 in
     let x = s .args .x in
     let b = toBits binary32 x in
     let u = c .before .magnitude .result in
     let h = c .before .magnitude .ensures .1 in
-    ap Whole (toZ-ofZ w64 (pos 0 -ℤ toZ w64 u) (less-fits u h) ∙ nought-less u h ∙ ap (λ (n : ℕ). negℤ (pos n)) (c .before .magnitude .ensures .0) ∙ ap (λ (t : Bool). signed t (wholePart b)) (sym (is-true (leb (2 ^ 31) b) (le→leb (2 ^ 31) b (c .if5 .taken)))))
+    ap Whole (toZ-ofZ w64 (pos 0 -ℤ toZ w64 u) (less-fits u h) ∙ nought-less u h ∙ ap (λ (n : ℕ). negℤ (pos n)) (c .before .magnitude .ensures .0)
+    ∙ ap (λ (t : Bool). signed t (wholePart b)) (sym (is-true (leb (2 ^ 31) b) (le→leb (2 ^ 31) b (c .if5 .taken)))))
     ∙ sym (middle x (held s) (omega (arith, field-is b)) (omega (arith, field-is b)))
 
 returns-6 : tie.Need-returns-6
 returns-6 c =
-    let s = c .before .before .before .before .before in
+    let s4 = c .before .before .before .before in
+    let s5 = s4 .before in
+    let s = s5 in
     let x = s .args .x in
     let b = toBits binary32 x in
     let u = c .before .magnitude .result in
-    ap Whole (toZ-pos w64 u (c .before .magnitude .ensures .1) ∙ ap pos (c .before .magnitude .ensures .0) ∙ ap (λ (t : Bool). signed t (wholePart b)) (sym (is-false (leb (2 ^ 31) b) (lt→nleb (2 ^ 31) b (c .if5 .left)))))
+    ap Whole (toZ-pos w64 u (c .before .magnitude .ensures .1) ∙ ap pos (c .before .magnitude .ensures .0) ∙ ap (λ (t : Bool). signed t (wholePart b))
+    (sym (is-false (leb (2 ^ 31) b) (lt→nleb (2 ^ 31) b (c .if5 .left)))))
     ∙ sym (middle x (held s) (omega (arith, field-is b)) (omega (arith, field-is b)))
 
 pub to-i64-spec : {M : Type 1} → statement M

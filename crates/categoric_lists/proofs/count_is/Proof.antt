@@ -21,8 +21,11 @@ returns c = negative-length (c .before .args .count) (c .before .args .given) (s
 
 cast-result : tie.Need-cast-result
 cast-result c =
-    let s = c .before in
-    (subst (λ z. T (nonNeg z)) (sym (count-back s)) (cast-may (s .args .count) (from-0 c)), subst (λ z. Fits w64 (natAbs z)) (sym (count-back s)) (record { fits = cast-fits (s .args .count) (s .fits .count .sfits) (from-0 c) }))
+    let s = c .before in (
+      subst (λ z. T (nonNeg z)) (sym (count-back s)) (cast-may (s .args .count) (from-0 c)),
+      subst (λ z. Fits w64 (natAbs z)) (sym (count-back s))
+          (record { fits = cast-fits (s .args .count) (s .fits .count .sfits) (from-0 c) }),
+    )
 
 returns-2 : tie.Need-returns-2
 returns-2 c = let s = c .before in ap (λ z. eqb (natAbs z) (s .args .given)) (count-back s) ∙ cast-length (s .args .count) (s .args .given) (from-0 c)

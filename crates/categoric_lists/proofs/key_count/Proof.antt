@@ -30,8 +30,11 @@ returns c =
 
 cast-result : tie.Need-cast-result
 cast-result c =
-    let n = c .before .range-count in
-    (subst (λ z. T (nonNeg z)) (sym (back (n .result) (n .ok))) (cast-may (n .result) (from-0 c)), subst (λ z. Fits w64 (natAbs z)) (sym (back (n .result) (n .ok))) (record { fits = cast-fits (n .result) (n .ok) (from-0 c) }))
+    let n = c .before .range-count in (
+      subst (λ z. T (nonNeg z)) (sym (back (n .result) (n .ok))) (cast-may (n .result) (from-0 c)),
+      subst (λ z. Fits w64 (natAbs z))
+          (sym (back (n .result) (n .ok))) (record { fits = cast-fits (n .result) (n .ok) (from-0 c) }),
+    )
 
 returns-2 : tie.Need-returns-2
 returns-2 c =

@@ -28,7 +28,9 @@ out-of-range-requires c κs = search needs
 
 returns : tie.Need-returns Inv-loop μ-loop
 returns c =
-    let s = c .before .before .before .before .before in
+    let s4 = c .before .before .before .before in
+    let s5 = s4 .before in
+    let s = s5 in
     let l = c .before .before .before .before .loop in
     let k = getD (s .args .keys .now) (l .i) (pos 0) in
     key-refused (s .args .keys .now) (s .args .count) (l .i) (s .pre .1) (s .pre .0) (l .inv .1) (c .before .before .before .loop-test .taken)
@@ -36,7 +38,9 @@ returns c =
 
 loop-again : tie.Need-loop-again Inv-loop μ-loop
 loop-again c =
-    let s = c .before .before .before .before .before in
+    let s4 = c .before .before .before .before in
+    let s5 = s4 .before in
+    let s = s5 in
     let l = c .before .before .before .before .loop in
     let k = getD (s .args .keys .now) (l .i) (pos 0) in (
       omega arith,

@@ -17,10 +17,10 @@ use Rattle.categoric_search.proofs.bisect.Statement.{statement}
 use Rattle.categoric_search.proofs.bisect.Tie as tie
 
 abbrev Inv-loop : tie.InvT-loop
-Inv-loop narrow step key places result₀ i₀ result i = Filling 0 (λ k. bisect narrow step (getD key k (pos 0)) (getD places k 0)) 16 16 i result
+Inv-loop narrow step key indices result₀ i₀ result i = Filling 0 (λ k. bisect narrow step (getD key k (pos 0)) (getD indices k 0)) 16 16 i result
 
 abbrev μ-loop : tie.MeasureT-loop
-μ-loop narrow step key places result₀ i₀ result i = 16 - i
+μ-loop narrow step key indices result₀ i₀ result i = 16 - i
 
 abbrev upper : tie.After-result2 Inv-loop μ-loop → Bool
 upper c =

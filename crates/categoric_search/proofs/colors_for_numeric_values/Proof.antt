@@ -14,8 +14,8 @@ use Rattle.categoric_search.proofs.colors_for_numeric_values.Tie as tie
 narrowed-samples-requires : tie.Need-narrowed-samples-requires
 narrowed-samples-requires c κs = search needs
 
-leading-places-requires : tie.Need-leading-places-requires
-leading-places-requires c κs = search needs
+first-steps-requires : tie.Need-first-steps-requires
+first-steps-requires c κs = search needs
 
 bisect-requires : tie.Need-bisect-requires
 bisect-requires c κs = search needs
@@ -52,9 +52,10 @@ returns c k h =
     let key = s0 .before .narrowed-samples in
     let a = s0 .before .before .args in
     c .mask-missing .ensures k h
-    ∙ ap₂ (λ (z : ℤ) (w : ℕ). cond (eqZ z (getD (key .result) k (pos 0))) w (a .nodata)) (c .before .before .keys-at .ensures k h) (c .before .colors-at .ensures k h)
+    ∙ ap₂ (λ (z : ℤ) (w : ℕ). cond (eqZ z (getD (key .result) k (pos 0))) w (a .nodata)) (c .before .before .keys-at .ensures k h)
+    (c .before .colors-at .ensures k h)
     ∙ color-at-end (a .narrow .now) (a .colors .now) (a .nodata) (getD (key .result) k (pos 0))
-    (s0 .leading-places .ensures .0 k h)
+    (s0 .first-steps .ensures .0 k h)
     (s1 .bisect .ensures .0 k h)
     (s2 .bisect2 .ensures .0 k h)
     (s3 .bisect3 .ensures .0 k h)
@@ -67,7 +68,7 @@ colors-for-numeric-values-spec =
     tie.close
     (tie.spec
     narrowed-samples-requires
-    leading-places-requires
+    first-steps-requires
     bisect-requires
     bisect-requires-2
     bisect-requires-3

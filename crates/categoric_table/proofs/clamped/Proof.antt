@@ -12,12 +12,14 @@ use Rattle.categoric_table.proofs.clamped.Tie as tie
 limit-of-requires : tie.Need-limit-of-requires
 limit-of-requires c κs = search needs
 
-low-is : (c : tie.Joined1) → c .if1 .low ≡ cond (lt (c .before .before .args .value) (sizeLimit (c .before .before .args .size))) (c .before .before .args .value) nought
+low-is : (c : tie.Joined1) → c .if1 .low ≡ cond (lt (c .before .before .args .value) (sizeLimit (c .before .before .args .size)))
+    (c .before .before .args .value) nought
 unfolding ofBits
 low-is c =
     let v = c .before .before .args .value in
     let e = ap (lt v) (c .before .limit-of .ensures) in
-    ⊎-elim (λ w. w .1 ∙ sym (ap (λ (b : Bool). cond b v nought) (sym e ∙ w .0 .taken))) (λ w. w .1 ∙ sym (ap (λ (b : Bool). cond b v nought) (sym e ∙ w .0 .left))) (c .if1 .came)
+    ⊎-elim (λ w. w .1 ∙ sym (ap (λ (b : Bool). cond b v nought) (sym e ∙ w .0 .taken)))
+    (λ w. w .1 ∙ sym (ap (λ (b : Bool). cond b v nought) (sym e ∙ w .0 .left))) (c .if1 .came)
 
 returns : tie.Need-returns
 unfolding ofBits clamp

@@ -17,7 +17,8 @@ refused-requires c κs = search needs
 returns : tie.Need-returns
 returns c =
     let s = c .before .before .before .before in
-    refused (take (s .args .count) (s .args .keys .now)) (take (s .args .count) (s .args .colors .now)) (c .before .before .before .keys-refusal .ensures) (c .before .enum-told .given .1) (c .refused .ensures)
+    refused (take (s .args .count) (s .args .keys .now)) (take (s .args .count) (s .args .colors .now)) (c .before .before .before .keys-refusal .ensures)
+    (c .before .enum-told .given .1) (c .refused .ensures)
 
 enum-told-2 : tie.Need-enum-told-2
 enum-told-2 c = search needs
@@ -28,7 +29,8 @@ new-requires c κs = search needs
 returns-2 : tie.Need-returns-2
 returns-2 c =
     let s = c .before .before .before .before in
-    made (take (s .args .count) (s .args .keys .now)) (take (s .args .count) (s .args .colors .now)) (c .before .before .before .keys-refusal .ensures) (c .before .enum-told2 .given .1) (c .new .ensures)
+    made (take (s .args .count) (s .args .keys .now)) (take (s .args .count) (s .args .colors .now)) (c .before .before .before .keys-refusal .ensures)
+    (c .before .enum-told2 .given .1) (c .new .ensures)
 
 pub create-spec : {M : Type 1} → statement M
 create-spec =

@@ -19,7 +19,8 @@ use Rattle.catgegoric.proofs.new.Statement.{statement}
 use Rattle.catgegoric.proofs.new.Tie as tie
 
 abbrev Inv-loop : tie.InvT-loop
-Inv-loop given words n keys₀ colors₀ count₀ i₀ keys colors count i = (i ≤ n) × (count ≤ i) × HoldsCategories (insertedUpTo i (take n given) (take n words)) keys colors count
+Inv-loop given words n keys₀ colors₀ count₀ i₀ keys colors count i =
+    (i ≤ n) × (count ≤ i) × HoldsCategories (insertedUpTo i (take n given) (take n words)) keys colors count
 
 abbrev μ-loop : tie.MeasureT-loop
 μ-loop given words n keys₀ colors₀ count₀ i₀ keys colors count i = n - i
@@ -42,7 +43,9 @@ element-copy-out-insert-2 c = search needs
 
 insert-requires : tie.Need-insert-requires Inv-loop μ-loop
 insert-requires c κs =
-    let l = c .before .before .before .before .before .loop in
+    let s4 = c .before .before .before .before in
+    let s5 = s4 .before in
+    let l = s5 .loop in
     (omega arith, keys-long (l .inv .2) (omega (arith, l .inv .2 .count-is)), colors-long (l .inv .2) (omega (arith, l .inv .2 .count-is)))
 
 add-i : tie.Need-add-i Inv-loop μ-loop
@@ -53,10 +56,15 @@ loop-less c = search needs
 
 loop-again : tie.Need-loop-again Inv-loop μ-loop
 loop-again c =
-    let s = c .before .before .before .before .before .before .before in
-    let l = c .before .before .before .before .before .before .loop in
+    let s4 = c .before .before .before .before in
+    let s5 = s4 .before in
+    let s6 = s5 .before in
+    let s7 = s6 .before in
+    let s = s7 in
+    let l = s6 .loop in
     let k = getD (s .args .given .now) (l .i) (pos 0) in
-    let h = holds-next (s .args .n) (l .i) (s .args .given .now) (s .args .words .now) (toZ w64 (ofZ w64 k)) (c .before .before .before .before .before .loop-test .taken) (back k (c .before .before .insert-arg .given)) (holds-put (omega arith) (l .inv .2) (c .insert .ensures)) in
+    let h = holds-next (s .args .n) (l .i) (s .args .given .now) (s .args .words .now) (toZ w64 (ofZ w64 k)) (s5 .loop-test .taken)
+    (back k (c .before .before .insert-arg .given)) (holds-put (omega arith) (l .inv .2) (c .insert .ensures)) in
     (omega arith, omega (arith, h .count-is, length-firstOf (l .i + 1) (take (s .args .n) (s .args .given .now)) (take (s .args .n) (s .args .words .now))), h)
 
 with-lookup-requires : tie.Need-with-lookup-requires Inv-loop μ-loop

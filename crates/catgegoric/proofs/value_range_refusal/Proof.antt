@@ -17,12 +17,17 @@ wide-is c =
     let s = c .before in
     c .wide-refusal .ensures ∙ back₂ (λ a b. wideRefusal a b Done) (s .args .start) (s .args .end) (s .fits .start .sfits) (s .fits .end .sfits)
 
-length-is : (c : tie.After-count-is) → c .count-is .result ≡ countIs (rangeCount (c .before .before .before .before .before .args .start) (c .before .before .before .before .before .args .end)) (c .before .before .before .before .before .args .colors)
+length-is : (c : tie.After-count-is) → c .count-is .result
+    ≡ countIs (rangeCount (c .before .before .before .before .before .args .start) (c .before .before .before .before .before .args .end))
+    (c .before .before .before .before .before .args .colors)
 length-is c =
-    let s = c .before .before .before .before .before in
+    let s4 = c .before .before .before .before in
+    let s5 = s4 .before in
+    let s = s5 in
     let n = c .before .range-count in
     c .count-is .ensures
-    ∙ ap (λ z. countIs z (s .args .colors)) (back (n .result) (n .ok) ∙ n .ensures ∙ back₂ rangeCount (s .args .start) (s .args .end) (s .fits .start .sfits) (s .fits .end .sfits))
+    ∙ ap (λ z. countIs z (s .args .colors)) (back (n .result) (n .ok) ∙ n .ensures ∙ back₂ rangeCount (s .args .start) (s .args .end) (s .fits .start .sfits)
+    (s .fits .end .sfits))
 
 wide-refusal-requires : tie.Need-wide-refusal-requires
 wide-refusal-requires c κs = search needs
@@ -34,7 +39,9 @@ returns : tie.Need-returns
 unfolding valueRangeRefusal
 returns c =
     let s = c .before .before .before in
-    stopped (wideRefusal (s .args .start) (s .args .end)) (wide-checks (s .args .start) (s .args .end)) (refuseIf (not (countIs (rangeCount (s .args .start) (s .args .end)) (s .args .colors))) ColorCountDiffers Done) (wide-is (c .before .before)) (c .enum-told .given .1)
+    stopped (wideRefusal (s .args .start) (s .args .end)) (wide-checks (s .args .start) (s .args .end))
+    (refuseIf (not (countIs (rangeCount (s .args .start) (s .args .end)) (s .args .colors))) ColorCountDiffers Done) (wide-is (c .before .before))
+    (c .enum-told .given .1)
 
 enum-told-2 : tie.Need-enum-told-2
 enum-told-2 c = search needs
@@ -51,15 +58,24 @@ count-is-requires c κs = search needs
 returns-2 : tie.Need-returns-2
 unfolding valueRangeRefusal
 returns-2 c =
-    let s = c .before .before .before .before .before .before in
-    wide-is (c .before .before .before .before .before)
-    ∙ sym (ap (λ (t : Bool). wideRefusal (s .args .start) (s .args .end) (refuseIf (not t) ColorCountDiffers Done)) (sym (length-is (c .before)) ∙ c .if1 .taken))
+    let s4 = c .before .before .before .before in
+    let s5 = s4 .before in
+    let s6 = s5 .before in
+    let s = s6 in
+    wide-is (s5)
+    ∙ sym (ap (λ (t : Bool). wideRefusal (s .args .start) (s .args .end) (refuseIf (not t) ColorCountDiffers Done))
+    (sym (length-is (c .before)) ∙ c .if1 .taken))
 
 returns-3 : tie.Need-returns-3
 unfolding valueRangeRefusal
 returns-3 c =
-    let s = c .before .before .before .before .before .before in
-    sym (ap (λ (t : Bool). wideRefusal (s .args .start) (s .args .end) (refuseIf (not t) ColorCountDiffers Done)) (sym (length-is (c .before)) ∙ c .if1 .left) ∙ cleared (wideRefusal (s .args .start) (s .args .end)) (wide-checks (s .args .start) (s .args .end)) (Refused ColorCountDiffers) (sym (wide-is (c .before .before .before .before .before)) ∙ c .before .before .before .enum-told2 .given .1))
+    let s4 = c .before .before .before .before in
+    let s5 = s4 .before in
+    let s6 = s5 .before in
+    let s = s6 in
+    sym (ap (λ (t : Bool). wideRefusal (s .args .start) (s .args .end) (refuseIf (not t) ColorCountDiffers Done)) (sym (length-is (c .before)) ∙ c .if1 .left)
+    ∙ cleared (wideRefusal (s .args .start) (s .args .end)) (wide-checks (s .args .start) (s .args .end)) (Refused ColorCountDiffers)
+    (sym (wide-is (s5)) ∙ c .before .before .before .enum-told2 .given .1))
 
 pub value-range-refusal-spec : {M : Type 1} → statement M
 value-range-refusal-spec =

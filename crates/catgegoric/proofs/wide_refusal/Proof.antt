@@ -14,7 +14,8 @@ use Rattle.catgegoric.proofs.wide_refusal.Tie as tie
 wide-is : (c : tie.After-too-wide) → c .too-wide .result ≡ tooWide (c .before .args .start) (c .before .args .end)
 wide-is c = let s = c .before in c .too-wide .ensures ∙ back₂ tooWide (s .args .start) (s .args .end) (s .fits .start .sfits) (s .fits .end .sfits)
 
-count-is : (c : tie.After-range-count) → toZ w64 (ofZ w64 (c .range-count .result)) ≡ rangeCount (c .before .before .before .args .start) (c .before .before .before .args .end)
+count-is : (c : tie.After-range-count) → toZ w64 (ofZ w64 (c .range-count .result)) ≡ rangeCount (c .before .before .before .args .start)
+    (c .before .before .before .args .end)
 count-is c =
     let s = c .before .before .before in
     back (c .range-count .result) (c .range-count .ok) ∙ c .range-count .ensures

@@ -12,8 +12,11 @@ create-fast-lookup-requires c κs = search needs
 
 returns : tie.Need-returns
 returns c =
-    let s = c .before .before .before .before .before in
-    ap₂ (λ l n. record { keys = s .args .t1; colors = s .args .t2; count = s .args .count; lookup = l; «lookup_count» = n }) (c .create-fast-lookup .ensures) (c .before .before .before .lookup-size .ensures)
+    let s4 = c .before .before .before .before in
+    let s5 = s4 .before in
+    let s = s5 in
+    ap₂ (λ l n. record { keys = s .args .t1; colors = s .args .t2; count = s .args .count; lookup = l; «lookup_count» = n }) (c .create-fast-lookup .ensures)
+    (c .before .before .before .lookup-size .ensures)
 
 pub with-lookup-spec : {M : Type 1} → statement M
 with-lookup-spec = tie.close (tie.spec lookup-size-requires create-fast-lookup-requires returns)

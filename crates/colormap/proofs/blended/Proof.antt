@@ -18,7 +18,13 @@ blended-channel-requires-4 c κs = search needs
 
 returns : tie.Need-returns
 unfolding blend
-returns c = λ j. record { r = c .before .before .before .blended-channel .ensures j; g = c .before .before .blended-channel2 .ensures j; b = c .before .blended-channel3 .ensures j; a = c .blended-channel4 .ensures j }
+returns c =
+    λ j. record {
+      r = c .before .before .before .blended-channel .ensures j;
+      g = c .before .before .blended-channel2 .ensures j;
+      b = c .before .blended-channel3 .ensures j;
+      a = c .blended-channel4 .ensures j;
+    }
 
 pub blended-spec : {M : Type 1} → statement M
 blended-spec =

@@ -15,7 +15,10 @@ default-requires : tie.Need-default-requires
 default-requires c κs = search needs
 
 returns : tie.Need-returns
-returns c = refused (c .before .before .before .before .before .args .colors .now) (c .before .before .before .list-refusal .ensures) (c .before .enum-told .given .1) (c .default .ensures)
+returns c =
+    let s4 = c .before .before .before .before in
+    let s5 = s4 .before in
+    refused (s5 .args .colors .now) (c .before .before .before .list-refusal .ensures) (c .before .enum-told .given .1) (c .default .ensures)
 
 enum-told-2 : tie.Need-enum-told-2
 enum-told-2 c = search needs
@@ -24,7 +27,10 @@ from-color-list-requires : tie.Need-from-color-list-requires
 from-color-list-requires c κs = let e = sym (c .before .before .list-refusal .ensures) ∙ c .enum-told2 .given .1 in (enough _ e, few _ e)
 
 returns-2 : tie.Need-returns-2
-returns-2 c = made (c .before .before .before .before .before .args .colors .now) (c .before .before .before .list-refusal .ensures) (c .before .enum-told2 .given .1) (c .from-color-list .ensures)
+returns-2 c =
+    let s4 = c .before .before .before .before in
+    let s5 = s4 .before in
+    made (s5 .args .colors .now) (c .before .before .before .list-refusal .ensures) (c .before .enum-told2 .given .1) (c .from-color-list .ensures)
 
 pub create-spec : {M : Type 1} → statement M
 create-spec =

@@ -27,7 +27,9 @@ default-requires c κs = search needs
 
 returns : tie.Need-returns
 unfolding paletteOf
-returns c = refused (palette (c .before .before .before .before .args .number)) (ap (λ (p : Palette). p .answer) (c .before .before .before .palette-of .ensures)) (c .before .enum-told .given .1) (c .default .ensures)
+returns c =
+    refused (palette (c .before .before .before .before .args .number)) (ap (λ (p : Palette). p .answer) (c .before .before .before .palette-of .ensures))
+    (c .before .enum-told .given .1) (c .default .ensures)
 
 enum-told-2 : tie.Need-enum-told-2
 enum-told-2 c = search needs
@@ -40,7 +42,13 @@ count-fits : (c : tie.After-palette-of) → c .palette-of .result .answer ≡ Do
 unfolding paletteOf
 count-fits c e =
     let s = sizes _ (numbered _ (numbered-done c e)) in
-    omega (arith, ap (λ (p : Palette). p .count) (c .palette-of .ensures), ap (λ (p : Palette). length (p .colors)) (c .palette-of .ensures), length-padded 0 12 (palette (c .before .args .number)) (s .1))
+    omega (
+      arith,
+      ap (λ (p : Palette). p .count) (c .palette-of .ensures),
+      ap (λ (p : Palette). length (p .colors)) (c .palette-of .ensures),
+      length-padded 0 12
+          (palette (c .before .args .number)) (s .1),
+    )
 
 array-share-prefix-colors : tie.Need-array-share-prefix-colors
 array-share-prefix-colors c = count-fits (c .before .before .before) (c .before .enum-told2 .given .1)
@@ -52,7 +60,11 @@ create-requires : tie.Need-create-requires
 create-requires c κs = search needs
 
 returns-2 : tie.Need-returns-2
-returns-2 c = c .create .ensures ∙ ap (λ (p : Palette). rampOfList (take (p .count) (p .colors))) (c .before .before .before .before .before .palette-of .ensures) ∙ by-number _ (numbered-done (c .before .before .before .before .before) (c .before .before .before .enum-told2 .given .1))
+returns-2 c =
+    let s4 = c .before .before .before .before in
+    let s5 = s4 .before in
+    c .create .ensures ∙ ap (λ (p : Palette). rampOfList (take (p .count) (p .colors))) (s5 .palette-of .ensures)
+    ∙ by-number _ (numbered-done (s5) (c .before .before .before .enum-told2 .given .1))
 
 pub create-for-preset-spec : {M : Type 1} → statement M
 create-for-preset-spec =

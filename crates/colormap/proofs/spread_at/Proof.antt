@@ -34,7 +34,8 @@ cast-blended : tie.Need-cast-blended
 cast-blended c = search needs
 
 mul-from-bits : tie.Need-mul-from-bits
-mul-from-bits c = omega (arith, place-lt (c .before .before .args .i) (length (c .before .before .args .colors .now)) (search needs) (search needs) (search needs))
+mul-from-bits c =
+    omega (arith, place-lt (c .before .before .args .i) (length (c .before .before .args .colors .now)) (search needs) (search needs) (search needs))
 
 shared-slice-read-from-bits : tie.Need-shared-slice-read-from-bits
 shared-slice-read-from-bits c = place-lt _ _ (search needs) (search needs) (search needs)
@@ -43,7 +44,12 @@ from-bits-requires : tie.Need-from-bits-requires
 from-bits-requires c κs = search needs
 
 mul-from-bits-2 : tie.Need-mul-from-bits-2
-mul-from-bits-2 c = omega (arith, place-lt (c .before .before .before .before .args .i) (length (c .before .before .before .before .args .colors .now)) (search needs) (search needs) (search needs))
+mul-from-bits-2 c =
+    omega (
+      arith,
+      place-lt (c .before .before .before .before .args .i) (length (c .before .before .before .before .args .colors .now)) (search needs)
+          (search needs) (search needs),
+    )
 
 shared-slice-read-from-bits-2 : tie.Need-shared-slice-read-from-bits-2
 shared-slice-read-from-bits-2 c = next-lt _ _ (search needs) (search needs) (search needs) (omega arith)
@@ -59,7 +65,16 @@ to-bits-requires c κs = search needs
 
 returns-2 : tie.Need-returns-2
 unfolding spreadAt
-returns-2 c = let a = c .before .before .before .before .before .before .before .before .args in simp (ne-eqb _ _ (c .before .before .before .before .before .before .if1 .left)) (c .to-bits .ensures ∙ ap wordOf (c .before .blended .ensures ∙ (λ j. blend (a .i * (length (a .colors .now) - 1) % 255) (c .before .before .before .before .from-bits .ensures j) (c .before .before .from-bits2 .ensures j))))
+returns-2 c =
+    let s4 = c .before .before .before .before in
+    let s6 = s4 .before .before in
+    let s8 = s6 .before .before in
+    let a = s8 .args in
+    simp (ne-eqb _ _ (s6 .if1 .left))
+    (c .to-bits .ensures ∙ ap wordOf
+    (c .before .blended .ensures
+    ∙ (λ j. blend (a .i * (length (a .colors .now) - 1) % 255) (c .before .before .before .before .from-bits .ensures j)
+    (c .before .before .from-bits2 .ensures j))))
 
 pub spread-at-spec : {M : Type 1} → statement M
 spread-at-spec =

@@ -17,7 +17,14 @@ same-length-2 : tie.Need-same-length-2
 same-length-2 c = search needs
 
 returns : tie.Need-returns
-returns c = let a = c .before .before .before .before .before .before .before .before .before .before .before .before .before .before .before .before .before .before .before .before .before .args in in-lanes (a .legend) (a .nodata) (c .before .before .before .before .before .before .before .before .before .before .before .view-of .ensures) (c .before .before .before .before .apply-to-data-kernel .ensures)
+returns c =
+    let s4 = c .before .before .before .before in
+    let s8 = s4 .before .before .before .before in
+    let s11 = s8 .before .before .before in
+    let s15 = s11 .before .before .before .before in
+    let s19 = s15 .before .before .before .before in
+    let s21 = s19 .before .before in
+    let a = s21 .args in in-lanes (a .legend) (a .nodata) (s11 .view-of .ensures) (c .before .before .before .before .apply-to-data-kernel .ensures)
 
 pub apply-to-data-kernel-spec : {M : Type 1} → statement M
 apply-to-data-kernel-spec = tie.close (tie.spec view-of-requires apply-to-data-kernel-requires same-length same-length-2 returns)

@@ -14,7 +14,13 @@ same-length : tie.Need-same-length
 same-length c = search needs
 
 returns : tie.Need-returns
-returns c = let a = c .before .before .before .before .before .before .before .before .before .before .before .before .before .before .before .before .before .args in plainly (a .legend) (a .nodata) (c .before .before .before .before .before .before .before .before .view-of .ensures) (c .before .before .apply-to-data-scalar .ensures)
+returns c =
+    let s4 = c .before .before .before .before in
+    let s8 = s4 .before .before .before .before in
+    let s12 = s8 .before .before .before .before in
+    let s16 = s12 .before .before .before .before in
+    let s17 = s16 .before in
+    let a = s17 .args in plainly (a .legend) (a .nodata) (s8 .view-of .ensures) (c .before .before .apply-to-data-scalar .ensures)
 
 pub apply-to-data-scalar-spec : {M : Type 1} → statement M
 apply-to-data-scalar-spec = tie.close (tie.spec view-of-requires apply-to-data-scalar-requires same-length returns)

@@ -37,11 +37,33 @@ slice-aggregate-paint-2 : tie.Need-slice-aggregate-paint-2
 slice-aggregate-paint-2 c = search needs
 
 paint-requires : tie.Need-paint-requires
-paint-requires c κs = let l = c .before .before .before .before .before .before .before .before .before .before .before .before .before .before .before .before .before .before .args .legend in (stored l (c .before .before .before .before .before .before .view-of .ensures) (range-stored l (sym (c .before .before .before .before .before .before .before .before .before .before .before .before .before .before .before .before .before .total-range-refusal .ensures) ∙ c .before .before .before .before .before .before .before .before .before .before .before .before .before .before .before .enum-told2 .given .1)), search needs)
+paint-requires c κs =
+    let s4 = c .before .before .before .before in
+    let s6 = s4 .before .before in
+    let s10 = s6 .before .before .before .before in
+    let s14 = s10 .before .before .before .before in
+    let s15 = s14 .before in
+    let s17 = s15 .before .before in
+    let s18 = s17 .before in
+    let l = s18 .args .legend in
+    (stored l (s6 .view-of .ensures) (range-stored l (sym (s17 .total-range-refusal .ensures) ∙ s15 .enum-told2 .given .1)), search needs)
 
 returns-2 : tie.Need-returns-2
 unfolding painted
-returns-2 c = let l = c .before .before .before .before .before .before .before .before .before .before .before .before .before .before .before .before .before .before .before .before .args .legend in list-done l (c .before .before .before .before .before .before .before .before .before .before .before .before .before .before .before .before .before .before .before .total-range-refusal .ensures) (c .before .before .before .before .before .before .before .before .before .before .before .before .before .before .before .before .before .enum-told2 .given .1) (c .before .before .before .before .before .before .before .before .before .before .before .before .before .before .before .before .range-of .ensures) (c .before .before .before .before .before .before .before .before .before .before .before .before .before .before .before .list-values .ensures) (c .before .paint .ensures ∙ rules l Absent (c .before .before .before .before .before .before .before .before .view-of .ensures) (c .before .before .before .before .before .before .before .before .before .before .before .before .before .before .before .list-values .result))
+returns-2 c =
+    let s4 = c .before .before .before .before in
+    let s8 = s4 .before .before .before .before in
+    let s12 = s8 .before .before .before .before in
+    let s15 = s12 .before .before .before in
+    let s16 = s15 .before in
+    let s17 = s16 .before in
+    let s19 = s17 .before .before in
+    let s20 = s19 .before in
+    let l = s20 .args .legend in
+    list-done l (s19 .total-range-refusal .ensures) (s17 .enum-told2 .given .1) (s16 .range-of .ensures) (s15 .list-values .ensures)
+    (c .before .paint .ensures ∙ rules l Absent (s8 .view-of .ensures) (s15 .list-values .result))
 
 pub color-list-spec : {M : Type 1} → statement M
-color-list-spec = tie.close (tie.spec total-range-refusal-requires enum-told returns enum-told-2 range-of-requires list-values-requires view-of-requires slice-aggregate-paint slice-aggregate-paint-2 paint-requires returns-2)
+color-list-spec =
+    tie.close (tie.spec total-range-refusal-requires enum-told returns enum-told-2 range-of-requires list-values-requires view-of-requires slice-aggregate-paint
+    slice-aggregate-paint-2 paint-requires returns-2)

@@ -36,7 +36,11 @@ loop-less : tie.Need-loop-less Inv-loop μ-loop
 loop-less c = search needs
 
 loop-again : tie.Need-loop-again Inv-loop μ-loop
-loop-again c = filling-turn (c .before .before .before .before .loop .inv) (omega arith) (omega arith) (value-is (c .before .before .before .before .before .args .range) (c .before .before .before .before .loop .i))
+loop-again c =
+    let s4 = c .before .before .before .before in
+    let s5 = s4 .before in
+    filling-turn (c .before .before .before .before .loop .inv) (omega arith) (omega arith)
+    (value-is (s5 .args .range) (c .before .before .before .before .loop .i))
 
 returns : tie.Need-returns Inv-loop μ-loop
 returns c = filled (c .before .loop .inv) (omega arith)

@@ -24,7 +24,9 @@ with-banded-requires c κs = search needs
 
 returns-2 : tie.Need-returns-2
 unfolding bandedWithSettings
-returns-2 c = let a = c .before .before .before .before .args in one (bandedLegend (a .made .banded) (a .config)) (c .with-banded .ensures) (c .before .before .enum-told2 .given .1)
+returns-2 c =
+    let a = c .before .before .before .before .args in one (bandedLegend (a .made .banded) (a .config)) (c .with-banded .ensures)
+    (c .before .before .enum-told2 .given .1)
 
 pub banded-with-settings-spec : {M : Type 1} → statement M
 banded-with-settings-spec =

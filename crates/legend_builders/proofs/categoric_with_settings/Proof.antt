@@ -14,7 +14,8 @@ empty-requires c κs = search needs
 
 returns : tie.Need-returns
 unfolding categoricWithSettings
-returns c = let a = c .before .before .before .args in none (categoricLegend (a .made .categoric) (a .config)) (c .empty .ensures) (c .before .enum-told .given .1)
+returns c =
+    let a = c .before .before .before .args in none (categoricLegend (a .made .categoric) (a .config)) (c .empty .ensures) (c .before .enum-told .given .1)
 
 enum-told-2 : tie.Need-enum-told-2
 enum-told-2 c = search needs
@@ -24,7 +25,9 @@ with-categoric-requires c κs = search needs
 
 returns-2 : tie.Need-returns-2
 unfolding categoricWithSettings
-returns-2 c = let a = c .before .before .before .before .args in one (categoricLegend (a .made .categoric) (a .config)) (c .with-categoric .ensures) (c .before .before .enum-told2 .given .1)
+returns-2 c =
+    let a = c .before .before .before .before .args in one (categoricLegend (a .made .categoric) (a .config)) (c .with-categoric .ensures)
+    (c .before .before .enum-told2 .given .1)
 
 pub categoric-with-settings-spec : {M : Type 1} → statement M
 categoric-with-settings-spec =

@@ -12,7 +12,8 @@ banded-with-settings-requires : tie.Need-banded-with-settings-requires
 banded-with-settings-requires c κs = search needs
 
 returns : tie.Need-returns
-returns c = c .banded-with-settings .ensures ∙ ap (λ m. bandedWithSettings m (c .before .before .args .config)) (c .before .with-manual-ranges-from-ramp .ensures)
+returns c =
+    c .banded-with-settings .ensures ∙ ap (λ m. bandedWithSettings m (c .before .before .args .config)) (c .before .with-manual-ranges-from-ramp .ensures)
 
 pub create-banded-manual-ranges-from-ramp-spec : {M : Type 1} → statement M
 create-banded-manual-ranges-from-ramp-spec =

@@ -24,7 +24,9 @@ with-linear-requires c κs = search needs
 
 returns-2 : tie.Need-returns-2
 unfolding linearWithSettings
-returns-2 c = let a = c .before .before .before .before .args in one (linearLegend (a .made .linear) (a .config)) (c .with-linear .ensures) (c .before .before .enum-told2 .given .1)
+returns-2 c =
+    let a = c .before .before .before .before .args in one (linearLegend (a .made .linear) (a .config)) (c .with-linear .ensures)
+    (c .before .before .enum-told2 .given .1)
 
 pub linear-with-settings-spec : {M : Type 1} → statement M
 linear-with-settings-spec =

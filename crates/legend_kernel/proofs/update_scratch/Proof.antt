@@ -13,10 +13,16 @@ same-length : tie.Need-same-length
 same-length c = search needs
 
 returns : tie.Need-returns
-returns c = let a = c .before .before .before .before .before .before .before .args in c .before .before .keep-last .ensures ∙ sym (ap (λ b. cond b (scratchAfter (a .lanes) (a .out .now) (a .scratch .now)) (a .scratch .now)) (c .before .before .before .before .if1 .taken))
+returns c =
+    let s4 = c .before .before .before .before in
+    let s7 = s4 .before .before .before in
+    let a = s7 .args in
+    c .before .before .keep-last .ensures
+    ∙ sym (ap (λ b. cond b (scratchAfter (a .lanes) (a .out .now) (a .scratch .now)) (a .scratch .now)) (c .before .before .before .before .if1 .taken))
 
 returns-2 : tie.Need-returns-2
-returns-2 c = let a = c .before .before .before .args in sym (ap (λ b. cond b (scratchAfter (a .lanes) (a .out .now) (a .scratch .now)) (a .scratch .now)) (c .if1 .left))
+returns-2 c =
+    let a = c .before .before .before .args in sym (ap (λ b. cond b (scratchAfter (a .lanes) (a .out .now) (a .scratch .now)) (a .scratch .now)) (c .if1 .left))
 
 pub update-scratch-spec : {M : Type 1} → statement M
 update-scratch-spec = tie.close (tie.spec keep-last-requires same-length returns returns-2)

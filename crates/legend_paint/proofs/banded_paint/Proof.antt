@@ -13,7 +13,9 @@ exclusions-of-requires : tie.Need-exclusions-of-requires
 exclusions-of-requires c κs = search needs
 
 returns : tie.Need-returns
-returns c = let a = c .before .before .args in ap₂ (λ (u : UnmappableColors) (e : Exclusions). record { count = a .banded .count; unmappable = u; exclusions = e }) (c .before .unmappable-colors .ensures) (c .exclusions-of .ensures)
+returns c =
+    let a = c .before .before .args in ap₂ (λ (u : UnmappableColors) (e : Exclusions). record { count = a .banded .count; unmappable = u; exclusions = e })
+    (c .before .unmappable-colors .ensures) (c .exclusions-of .ensures)
 
 pub banded-paint-spec : {M : Type 1} → statement M
 banded-paint-spec = tie.close (tie.spec unmappable-colors-requires exclusions-of-requires returns)

@@ -25,22 +25,65 @@ colors-of-requires : tie.Need-colors-of-requires
 colors-of-requires c κs = search needs
 
 paint-requires : tie.Need-paint-requires
-paint-requires c κs = (subst (λ (p : BandedPaint). p .count ≤ 64) (sym (c .before .before .before .before .before .before .before .before .before .banded-paint .ensures)) (c .before .before .before .before .before .before .before .before .before .before .before .before .pre .0), search needs)
+paint-requires c κs =
+    let s4 = c .before .before .before .before in
+    let s8 = s4 .before .before .before .before in
+    let s9 = s8 .before in
+    let s12 = s9 .before .before .before in
+    (subst (λ (p : BandedPaint). p .count ≤ 64) (sym (s9 .banded-paint .ensures)) (s12 .pre .0), search needs)
 
 same-length : tie.Need-same-length
 same-length c = search needs
 
 returns : tie.Need-returns
-returns c = let a = c .before .before .before .before .before .before .before .before .before .before .before .before .before .before .before .args in let long : length (a .banded .bands) ≡ 64 = sym (length-map (a .banded .bands) (λ (x : LegendBand). x .start)) ∙ ap length (sym (c .before .before .before .before .before .before .before .before .before .before .starts-of .ensures)) ∙ search needs in let few : a .banded .count ≤ length (a .banded .bands) = omega (arith, long, c .before .before .before .before .before .before .before .before .before .before .before .before .before .before .before .pre .0) in c .before .before .paint .ensures ∙ painted-plainly (bandedPainter (a .banded) (a .config) (a .nodata)) (a .lanes) (a .src .now) (bands-sample (a .config) (a .nodata) (a .banded) few (c .before .before .before .before .before .before .before .before .before .before .before .before .banded-paint .ensures) (c .before .before .before .before .before .before .before .before .before .before .starts-of .ensures) (c .before .before .before .before .before .before .before .before .before .ends-of .ensures) (c .before .before .before .before .before .before .before .before .colors-of .ensures)) (c .before .before .before .before .before .before .before .if1 .taken)
+returns c =
+    let s4 = c .before .before .before .before in
+    let s7 = s4 .before .before .before in
+    let s8 = s7 .before in
+    let s9 = s8 .before in
+    let s10 = s9 .before in
+    let s12 = s10 .before .before in
+    let s15 = s12 .before .before .before in
+    let a = s15 .args in
+    let long : length (a .banded .bands) ≡ 64 = sym (length-map (a .banded .bands) (λ (x : LegendBand). x .start)) ∙ ap length (sym (s10 .starts-of .ensures))
+    ∙ search needs in
+    let few : a .banded .count ≤ length (a .banded .bands) = omega (arith, long, s15 .pre .0) in
+    c .before .before .paint .ensures ∙ painted-plainly (bandedPainter (a .banded) (a .config) (a .nodata)) (a .lanes) (a .src .now)
+    (bands-sample (a .config) (a .nodata) (a .banded) few (s12 .banded-paint .ensures) (s10 .starts-of .ensures) (s9 .ends-of .ensures)
+    (s8 .colors-of .ensures)) (s7 .if1 .taken)
 
 paint-simd-requires : tie.Need-paint-simd-requires
-paint-simd-requires c κs = (subst (λ (p : BandedPaint). p .count ≤ 64) (sym (c .before .before .before .before .before .before .before .before .before .banded-paint .ensures)) (c .before .before .before .before .before .before .before .before .before .before .before .before .pre .0), lanes-count (c .before .before .before .before .before .before .before .before .before .before .before .before .args .lanes) (c .before .before .before .before .before .before .before .before .before .before .before .before .pre .1) (c .before .before .before .before .if1 .left), search needs)
+paint-simd-requires c κs =
+    let s4 = c .before .before .before .before in
+    let s8 = s4 .before .before .before .before in
+    let s9 = s8 .before in
+    let s12 = s9 .before .before .before in (
+      subst (λ (p : BandedPaint). p .count ≤ 64) (sym (s9 .banded-paint .ensures)) (s12 .pre .0),
+      lanes-count (s12 .args .lanes) (s12 .pre .1)
+          (c .before .before .before .before .if1 .left),
+      search needs,
+    )
 
 same-length-2 : tie.Need-same-length-2
 same-length-2 c = search needs
 
 returns-2 : tie.Need-returns-2
-returns-2 c = let a = c .before .before .before .before .before .before .before .before .before .before .before .before .before .before .before .args in let long : length (a .banded .bands) ≡ 64 = sym (length-map (a .banded .bands) (λ (x : LegendBand). x .start)) ∙ ap length (sym (c .before .before .before .before .before .before .before .before .before .before .starts-of .ensures)) ∙ search needs in let few : a .banded .count ≤ length (a .banded .bands) = omega (arith, long, c .before .before .before .before .before .before .before .before .before .before .before .before .before .before .before .pre .0) in c .before .before .paint-simd .ensures ∙ painted-in-lanes (bandedPainter (a .banded) (a .config) (a .nodata)) (a .lanes) (a .src .now) (bands-chunk (a .config) (a .nodata) (a .banded) few (c .before .before .before .before .before .before .before .before .before .before .before .before .banded-paint .ensures) (c .before .before .before .before .before .before .before .before .before .before .starts-of .ensures) (c .before .before .before .before .before .before .before .before .before .ends-of .ensures) (c .before .before .before .before .before .before .before .before .colors-of .ensures)) (bands-sample (a .config) (a .nodata) (a .banded) few (c .before .before .before .before .before .before .before .before .before .before .before .before .banded-paint .ensures) (c .before .before .before .before .before .before .before .before .before .before .starts-of .ensures) (c .before .before .before .before .before .before .before .before .before .ends-of .ensures) (c .before .before .before .before .before .before .before .before .colors-of .ensures)) (banded-simd (a .config) (a .nodata) (a .banded)) (c .before .before .before .before .before .before .before .if1 .left)
+returns-2 c =
+    let s4 = c .before .before .before .before in
+    let s7 = s4 .before .before .before in
+    let s8 = s7 .before in
+    let s9 = s8 .before in
+    let s10 = s9 .before in
+    let s12 = s10 .before .before in
+    let s15 = s12 .before .before .before in
+    let a = s15 .args in
+    let long : length (a .banded .bands) ≡ 64 = sym (length-map (a .banded .bands) (λ (x : LegendBand). x .start)) ∙ ap length (sym (s10 .starts-of .ensures))
+    ∙ search needs in
+    let few : a .banded .count ≤ length (a .banded .bands) = omega (arith, long, s15 .pre .0) in
+    c .before .before .paint-simd .ensures ∙ painted-in-lanes (bandedPainter (a .banded) (a .config) (a .nodata)) (a .lanes) (a .src .now)
+    (bands-chunk (a .config) (a .nodata) (a .banded) few (s12 .banded-paint .ensures) (s10 .starts-of .ensures) (s9 .ends-of .ensures) (s8 .colors-of .ensures))
+    (bands-sample (a .config) (a .nodata) (a .banded) few (s12 .banded-paint .ensures) (s10 .starts-of .ensures) (s9 .ends-of .ensures)
+    (s8 .colors-of .ensures)) (banded-simd (a .config) (a .nodata) (a .banded)) (s7 .if1 .left)
 
 pub paint-banded-spec : {M : Type 1} → statement M
 paint-banded-spec =

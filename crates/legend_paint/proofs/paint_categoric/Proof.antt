@@ -22,7 +22,16 @@ same-length : tie.Need-same-length
 same-length c = search needs
 
 returns : tie.Need-returns
-returns c = let a = c .before .before .before .before .before .before .before .before .args in let k = borrowedCategoric (a .keys .now) (a .colors .now) (a .count) (a .lookup .now) (a .size) in c .before .before .paint-by-keys .ensures ∙ ap (λ f. plainPainted f (a .src .now)) (ap (keySample (a .keys .now) (a .colors .now) (a .count)) (c .before .before .before .before .before .categoric-paint .ensures) ∙ key-sample (a .config) (a .nodata) k (c .before .before .before .before .if1 .taken)) ∙ painted-without (categoricPainter k (a .config) (a .nodata)) (a .lanes) (a .src .now) (keys-simd (a .config) (a .nodata) k (c .before .before .before .before .if1 .taken))
+returns c =
+    let s4 = c .before .before .before .before in
+    let s5 = s4 .before in
+    let s8 = s5 .before .before .before in
+    let a = s8 .args in
+    let k = borrowedCategoric (a .keys .now) (a .colors .now) (a .count) (a .lookup .now) (a .size) in
+    c .before .before .paint-by-keys .ensures ∙ ap (λ f. plainPainted f (a .src .now))
+    (ap (keySample (a .keys .now) (a .colors .now) (a .count)) (s5 .categoric-paint .ensures) ∙ key-sample (a .config) (a .nodata) k
+    (c .before .before .before .before .if1 .taken)) ∙ painted-without (categoricPainter k (a .config) (a .nodata)) (a .lanes) (a .src .now)
+    (keys-simd (a .config) (a .nodata) k (c .before .before .before .before .if1 .taken))
 
 paint-by-table-requires : tie.Need-paint-by-table-requires
 paint-by-table-requires c κs = search needs
@@ -31,16 +40,38 @@ same-length-2 : tie.Need-same-length-2
 same-length-2 c = search needs
 
 returns-2 : tie.Need-returns-2
-returns-2 c = let a = c .before .before .before .before .before .before .before .before .before .args in let k = borrowedCategoric (a .keys .now) (a .colors .now) (a .count) (a .lookup .now) (a .size) in c .before .before .paint-by-table .ensures ∙ painted-plainly (categoricPainter k (a .config) (a .nodata)) (a .lanes) (a .src .now) (ap (tableSample (a .lookup .now) (a .size)) (c .before .before .before .before .before .before .categoric-paint .ensures) ∙ table-sample (a .config) (a .nodata) k (omega (arith, c .before .before .before .before .before .if1 .left))) (c .before .before .before .before .if2 .taken)
+returns-2 c =
+    let s4 = c .before .before .before .before in
+    let s5 = s4 .before in
+    let s6 = s5 .before in
+    let s9 = s6 .before .before .before in
+    let a = s9 .args in
+    let k = borrowedCategoric (a .keys .now) (a .colors .now) (a .count) (a .lookup .now) (a .size) in
+    c .before .before .paint-by-table .ensures ∙ painted-plainly (categoricPainter k (a .config) (a .nodata)) (a .lanes) (a .src .now)
+    (ap (tableSample (a .lookup .now) (a .size)) (s6 .categoric-paint .ensures) ∙ table-sample (a .config) (a .nodata) k (omega (arith, s5 .if1 .left)))
+    (c .before .before .before .before .if2 .taken)
 
 paint-by-table-simd-requires : tie.Need-paint-by-table-simd-requires
-paint-by-table-simd-requires c κs = (c .before .before .before .before .before .before .pre .1, lanes-count (c .before .before .before .before .before .before .args .lanes) (c .before .before .before .before .before .before .pre .2) (c .before .if2 .left), search needs)
+paint-by-table-simd-requires c κs =
+    let s4 = c .before .before .before .before in
+    let s6 = s4 .before .before in
+    (s6 .pre .1, lanes-count (s6 .args .lanes) (s6 .pre .2) (c .before .if2 .left), search needs)
 
 same-length-3 : tie.Need-same-length-3
 same-length-3 c = search needs
 
 returns-3 : tie.Need-returns-3
-returns-3 c = let a = c .before .before .before .before .before .before .before .before .before .args in let k = borrowedCategoric (a .keys .now) (a .colors .now) (a .count) (a .lookup .now) (a .size) in c .before .before .paint-by-table-simd .ensures ∙ painted-in-lanes (categoricPainter k (a .config) (a .nodata)) (a .lanes) (a .src .now) (ap (tableChunk (a .lookup .now) (a .size)) (c .before .before .before .before .before .before .categoric-paint .ensures) ∙ table-chunk (a .config) (a .nodata) k) (ap (tableSample (a .lookup .now) (a .size)) (c .before .before .before .before .before .before .categoric-paint .ensures) ∙ table-sample (a .config) (a .nodata) k (omega (arith, c .before .before .before .before .before .if1 .left))) (table-simd (a .config) (a .nodata) k (omega (arith, c .before .before .before .before .before .if1 .left))) (c .before .before .before .before .if2 .left)
+returns-3 c =
+    let s4 = c .before .before .before .before in
+    let s5 = s4 .before in
+    let s6 = s5 .before in
+    let s9 = s6 .before .before .before in
+    let a = s9 .args in
+    let k = borrowedCategoric (a .keys .now) (a .colors .now) (a .count) (a .lookup .now) (a .size) in
+    c .before .before .paint-by-table-simd .ensures ∙ painted-in-lanes (categoricPainter k (a .config) (a .nodata)) (a .lanes) (a .src .now)
+    (ap (tableChunk (a .lookup .now) (a .size)) (s6 .categoric-paint .ensures) ∙ table-chunk (a .config) (a .nodata) k)
+    (ap (tableSample (a .lookup .now) (a .size)) (s6 .categoric-paint .ensures) ∙ table-sample (a .config) (a .nodata) k (omega (arith, s5 .if1 .left)))
+    (table-simd (a .config) (a .nodata) k (omega (arith, s5 .if1 .left))) (c .before .before .before .before .if2 .left)
 
 pub paint-categoric-spec : {M : Type 1} → statement M
 paint-categoric-spec =

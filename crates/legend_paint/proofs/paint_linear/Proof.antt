@@ -19,16 +19,35 @@ same-length : tie.Need-same-length
 same-length c = search needs
 
 returns : tie.Need-returns
-returns c = let a = c .before .before .before .before .before .before .before .before .args in let l = borrowedLinear (a .start) (a .end) (a .cmap .now) in c .before .before .paint .ensures ∙ painted-plainly (linearPainter l (a .config) (a .nodata)) (a .lanes) (a .src .now) (ap (plainSample (a .cmap .now)) (c .before .before .before .before .before .linear-paint .ensures) ∙ linear-sample (a .config) (a .nodata) l) (c .before .before .before .before .if1 .taken)
+returns c =
+    let s4 = c .before .before .before .before in
+    let s5 = s4 .before in
+    let s8 = s5 .before .before .before in
+    let a = s8 .args in
+    let l = borrowedLinear (a .start) (a .end) (a .cmap .now) in
+    c .before .before .paint .ensures ∙ painted-plainly (linearPainter l (a .config) (a .nodata)) (a .lanes) (a .src .now)
+    (ap (plainSample (a .cmap .now)) (s5 .linear-paint .ensures) ∙ linear-sample (a .config) (a .nodata) l) (c .before .before .before .before .if1 .taken)
 
 paint-simd-requires : tie.Need-paint-simd-requires
-paint-simd-requires c κs = (lanes-count (c .before .before .before .before .before .args .lanes) (c .before .before .before .before .before .pre .0) (c .before .if1 .left), search needs)
+paint-simd-requires c κs =
+    let s4 = c .before .before .before .before in
+    let s5 = s4 .before in
+    (lanes-count (s5 .args .lanes) (s5 .pre .0) (c .before .if1 .left), search needs)
 
 same-length-2 : tie.Need-same-length-2
 same-length-2 c = search needs
 
 returns-2 : tie.Need-returns-2
-returns-2 c = let a = c .before .before .before .before .before .before .before .before .args in let l = borrowedLinear (a .start) (a .end) (a .cmap .now) in c .before .before .paint-simd .ensures ∙ painted-in-lanes (linearPainter l (a .config) (a .nodata)) (a .lanes) (a .src .now) (ap (laneChunk (a .cmap .now)) (c .before .before .before .before .before .linear-paint .ensures) ∙ linear-chunk (a .config) (a .nodata) l) (ap (plainSample (a .cmap .now)) (c .before .before .before .before .before .linear-paint .ensures) ∙ linear-sample (a .config) (a .nodata) l) (linear-simd (a .config) (a .nodata) l) (c .before .before .before .before .if1 .left)
+returns-2 c =
+    let s4 = c .before .before .before .before in
+    let s5 = s4 .before in
+    let s8 = s5 .before .before .before in
+    let a = s8 .args in
+    let l = borrowedLinear (a .start) (a .end) (a .cmap .now) in
+    c .before .before .paint-simd .ensures ∙ painted-in-lanes (linearPainter l (a .config) (a .nodata)) (a .lanes) (a .src .now)
+    (ap (laneChunk (a .cmap .now)) (s5 .linear-paint .ensures) ∙ linear-chunk (a .config) (a .nodata) l)
+    (ap (plainSample (a .cmap .now)) (s5 .linear-paint .ensures) ∙ linear-sample (a .config) (a .nodata) l) (linear-simd (a .config) (a .nodata) l)
+    (c .before .before .before .before .if1 .left)
 
 pub paint-linear-spec : {M : Type 1} → statement M
 paint-linear-spec =

@@ -13,10 +13,12 @@ use Rattle.banded_chunk.specs.declared.BandedPaint.{BandedPaint}
 use Rattle.categoric_paint.specs.declared.CategoricPaint.{CategoricPaint}
 
 abbrev pub linearPaint : Linear → MappingConfig → Nodata → LinearPaint
-linearPaint l config nodata = record { start = l .start; end = l .end; colors = linearColors (l .cmap) config; exclusions = exclusionsOf nodata (config .«zero_is_nodata») }
+linearPaint l config nodata =
+    record { start = l .start; end = l .end; colors = linearColors (l .cmap) config; exclusions = exclusionsOf nodata (config .«zero_is_nodata») }
 
 abbrev pub bandedPaint : Banded → MappingConfig → Nodata → BandedPaint
-bandedPaint b config nodata = record { count = b .count; unmappable = bandedUnmappable (counted b) config; exclusions = exclusionsOf nodata (config .«zero_is_nodata») }
+bandedPaint b config nodata =
+    record { count = b .count; unmappable = bandedUnmappable (counted b) config; exclusions = exclusionsOf nodata (config .«zero_is_nodata») }
 
 abbrev pub categoricPaint : MappingConfig → Nodata → CategoricPaint
 categoricPaint config nodata = record { nodata = config .«nodata_color»; exclusions = exclusionsOf nodata (config .«zero_is_nodata») }

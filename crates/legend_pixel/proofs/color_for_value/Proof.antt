@@ -18,15 +18,24 @@ enum-told : tie.Need-enum-told
 enum-told c = search needs
 
 pixel-requires : tie.Need-pixel-requires
-pixel-requires c κs = let a = c .before .before .before .args in sym (c .before .before .stored-refusal .ensures (a .cmap .now) (a .keys .now) (a .colors .now) (a .lookup .now)) ∙ c .enum-told .given .1
+pixel-requires c κs =
+    let a = c .before .before .before .args in sym (c .before .before .stored-refusal .ensures (a .cmap .now) (a .keys .now) (a .colors .now) (a .lookup .now))
+    ∙ c .enum-told .given .1
 
 returns : tie.Need-returns
 unfolding colorForValue
-returns c = let a = c .before .before .before .before .args in let legend = borrowedLegend (a .view) (a .cmap .now) (a .keys .now) (a .colors .now) (a .lookup .now) in sym (ap (λ x. colorUnless x (painter legend (a .nodata) .plain (a .value))) (sym (c .before .before .before .stored-refusal .ensures (a .cmap .now) (a .keys .now) (a .colors .now) (a .lookup .now)) ∙ c .before .why .given .1))
+returns c =
+    let a = c .before .before .before .before .args in let legend = borrowedLegend (a .view) (a .cmap .now) (a .keys .now) (a .colors .now) (a .lookup .now) in
+    sym (ap (λ x. colorUnless x (painter legend (a .nodata) .plain (a .value)))
+    (sym (c .before .before .before .stored-refusal .ensures (a .cmap .now) (a .keys .now) (a .colors .now) (a .lookup .now)) ∙ c .before .why .given .1))
 
 returns-2 : tie.Need-returns-2
 unfolding colorForValue
-returns-2 c = let a = c .before .before .before .before .args in let legend = borrowedLegend (a .view) (a .cmap .now) (a .keys .now) (a .colors .now) (a .lookup .now) in ap Color (c .pixel .ensures) ∙ sym (ap (λ x. colorUnless x (painter legend (a .nodata) .plain (a .value))) (sym (c .before .before .before .stored-refusal .ensures (a .cmap .now) (a .keys .now) (a .colors .now) (a .lookup .now)) ∙ c .before .enum-told .given .1))
+returns-2 c =
+    let a = c .before .before .before .before .args in let legend = borrowedLegend (a .view) (a .cmap .now) (a .keys .now) (a .colors .now) (a .lookup .now) in
+    ap Color (c .pixel .ensures)
+    ∙ sym (ap (λ x. colorUnless x (painter legend (a .nodata) .plain (a .value)))
+    (sym (c .before .before .before .stored-refusal .ensures (a .cmap .now) (a .keys .now) (a .colors .now) (a .lookup .now)) ∙ c .before .enum-told .given .1))
 
 pub color-for-value-spec : {M : Type 1} → statement M
 color-for-value-spec =

@@ -24,7 +24,8 @@ array-copy-out-last : tie.Need-array-copy-out-last
 array-copy-out-last c = search needs
 
 returns-2 : tie.Need-returns-2
-returns-2 c = let a = c .before .before .before .args in let g : length (a .t1) ≡ 64 = search needs in bands-from-to noBand (a .count) (a .t1) (omega arith) (omega arith)
+returns-2 c =
+    let a = c .before .before .before .args in let g : length (a .t1) ≡ 64 = search needs in bands-from-to noBand (a .count) (a .t1) (omega arith) (omega arith)
 
 pub bands-range-spec : {M : Type 1} → statement M
 bands-range-spec =

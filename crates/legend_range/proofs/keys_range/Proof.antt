@@ -22,16 +22,35 @@ smallest-requires : tie.Need-smallest-requires
 smallest-requires c κs = search needs
 
 int-to-float-t5 : tie.Need-int-to-float-t5
-int-to-float-t5 c = let s = c .before .before .before in let ks = take (s .args .count) (s .args .keys .now) in let l : length ks ≡ s .args .count = length-take-le (s .args .count) (s .args .keys .now) (omega (arith, s .pre .0, s .pre .1)) in let h : 0 < length ks = omega arith in subst (λ z. T (inFloat binary32 (toZ w64 (ofZ w64 z)))) (sym (c .before .smallest .ensures)) (fits (smallest ks) (smallest-inside ks (s .pre .2) h))
+int-to-float-t5 c =
+    let s = c .before .before .before in let ks = take (s .args .count) (s .args .keys .now) in let l : length ks ≡ s .args .count = length-take-le
+    (s .args .count) (s .args .keys .now) (omega (arith, s .pre .0, s .pre .1)) in let h : 0 < length ks = omega arith in subst
+    (λ z. T (inFloat binary32 (toZ w64 (ofZ w64 z)))) (sym (c .before .smallest .ensures)) (fits (smallest ks) (smallest-inside ks (s .pre .2) h))
 
 largest-requires : tie.Need-largest-requires
 largest-requires c κs = search needs
 
 int-to-float-t7 : tie.Need-int-to-float-t7
-int-to-float-t7 c = let s = c .before .before .before .before .before in let ks = take (s .args .count) (s .args .keys .now) in let l : length ks ≡ s .args .count = length-take-le (s .args .count) (s .args .keys .now) (omega (arith, s .pre .0, s .pre .1)) in let h : 0 < length ks = omega arith in subst (λ z. T (inFloat binary32 (toZ w64 (ofZ w64 z)))) (sym (c .before .largest .ensures)) (fits (largest ks) (largest-inside ks (s .pre .2) h))
+int-to-float-t7 c =
+    let s4 = c .before .before .before .before in
+    let s5 = s4 .before in
+    let s = s5 in
+    let ks = take (s .args .count) (s .args .keys .now) in
+    let l : length ks ≡ s .args .count = length-take-le (s .args .count) (s .args .keys .now) (omega (arith, s .pre .0, s .pre .1)) in
+    let h : 0 < length ks = omega arith in
+    subst (λ z. T (inFloat binary32 (toZ w64 (ofZ w64 z)))) (sym (c .before .largest .ensures)) (fits (largest ks) (largest-inside ks (s .pre .2) h))
 
 returns-2 : tie.Need-returns-2
-returns-2 c = let s = c .before .before .before .before .before in let ks = take (s .args .count) (s .args .keys .now) in let l : length ks ≡ s .args .count = length-take-le (s .args .count) (s .args .keys .now) (omega (arith, s .pre .0, s .pre .1)) in let h : 0 < length ks = omega arith in ap₂ (λ x y. fromTo (ofInt binary32 (toZ w64 (ofZ w64 x))) (ofInt binary32 (toZ w64 (ofZ w64 y)))) (c .before .before .before .smallest .ensures) (c .before .largest .ensures) ∙ ap₂ (λ x y. fromTo (ofInt binary32 x) (ofInt binary32 y)) (same (smallest ks) (smallest-inside ks (s .pre .2) h)) (same (largest ks) (largest-inside ks (s .pre .2) h)) ∙ keys-from-to ks h
+returns-2 c =
+    let s4 = c .before .before .before .before in
+    let s5 = s4 .before in
+    let s = s5 in
+    let ks = take (s .args .count) (s .args .keys .now) in
+    let l : length ks ≡ s .args .count = length-take-le (s .args .count) (s .args .keys .now) (omega (arith, s .pre .0, s .pre .1)) in
+    let h : 0 < length ks = omega arith in
+    ap₂ (λ x y. fromTo (ofInt binary32 (toZ w64 (ofZ w64 x))) (ofInt binary32 (toZ w64 (ofZ w64 y)))) (c .before .before .before .smallest .ensures)
+    (c .before .largest .ensures) ∙ ap₂ (λ x y. fromTo (ofInt binary32 x) (ofInt binary32 y)) (same (smallest ks) (smallest-inside ks (s .pre .2) h))
+    (same (largest ks) (largest-inside ks (s .pre .2) h)) ∙ keys-from-to ks h
 
 pub keys-range-spec : {M : Type 1} → statement M
 keys-range-spec =

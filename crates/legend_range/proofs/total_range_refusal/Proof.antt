@@ -21,11 +21,16 @@ key-refusal-requires c κs = sym (c .before .before .stored-refusal .ensures) �
 
 returns : tie.Need-returns
 unfolding totalRangeRefusal
-returns c = sym (ap (λ a. firstOf a (keysRefusal (keysIn (c .before .before .before .before .args .legend .kind) (c .before .before .before .before .args .legend)))) (sym (c .before .before .before .stored-refusal .ensures) ∙ c .before .why .given .1))
+returns c =
+    sym (ap (λ a. firstOf a (keysRefusal (keysIn (c .before .before .before .before .args .legend .kind) (c .before .before .before .before .args .legend))))
+    (sym (c .before .before .before .stored-refusal .ensures) ∙ c .before .why .given .1))
 
 returns-2 : tie.Need-returns-2
 unfolding totalRangeRefusal
-returns-2 c = c .key-refusal .ensures ∙ sym (ap (λ a. firstOf a (keysRefusal (keysIn (c .before .before .before .before .args .legend .kind) (c .before .before .before .before .args .legend)))) (sym (c .before .before .before .stored-refusal .ensures) ∙ c .before .enum-told .given .1))
+returns-2 c =
+    c .key-refusal .ensures
+    ∙ sym (ap (λ a. firstOf a (keysRefusal (keysIn (c .before .before .before .before .args .legend .kind) (c .before .before .before .before .args .legend))))
+    (sym (c .before .before .before .stored-refusal .ensures) ∙ c .before .enum-told .given .1))
 
 pub total-range-refusal-spec : {M : Type 1} → statement M
 total-range-refusal-spec =

@@ -20,11 +20,16 @@ range-of-requires c κs = sym (c .before .before .total-range-refusal .ensures) 
 
 returns : tie.Need-returns
 unfolding totalValueRange
-returns c = sym (ap (λ a. rangeUnless a (rangeIn (c .before .before .before .before .args .legend .kind) (c .before .before .before .before .args .legend))) (sym (c .before .before .before .total-range-refusal .ensures) ∙ c .before .why .given .1))
+returns c =
+    sym (ap (λ a. rangeUnless a (rangeIn (c .before .before .before .before .args .legend .kind) (c .before .before .before .before .args .legend)))
+    (sym (c .before .before .before .total-range-refusal .ensures) ∙ c .before .why .given .1))
 
 returns-2 : tie.Need-returns-2
 unfolding totalValueRange
-returns-2 c = ap Range (c .range-of .ensures) ∙ sym (ap (λ a. rangeUnless a (rangeIn (c .before .before .before .before .args .legend .kind) (c .before .before .before .before .args .legend))) (sym (c .before .before .before .total-range-refusal .ensures) ∙ c .before .enum-told .given .1))
+returns-2 c =
+    ap Range (c .range-of .ensures)
+    ∙ sym (ap (λ a. rangeUnless a (rangeIn (c .before .before .before .before .args .legend .kind) (c .before .before .before .before .args .legend)))
+    (sym (c .before .before .before .total-range-refusal .ensures) ∙ c .before .enum-told .given .1))
 
 pub total-value-range-spec : {M : Type 1} → statement M
 total-value-range-spec =

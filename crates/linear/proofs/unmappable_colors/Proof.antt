@@ -18,7 +18,9 @@ compute-unmappable-colors-requires c κs = search needs
 
 returns : tie.Need-returns
 unfolding linearColors ofBits
-returns c = c .compute-unmappable-colors .ensures ∙ ap₂ (unmappableColors (c .before .before .before .args .config)) (c .before .before .get-color .ensures) (c .before .get-color2 .ensures)
+returns c =
+    c .compute-unmappable-colors .ensures ∙ ap₂ (unmappableColors (c .before .before .before .args .config)) (c .before .before .get-color .ensures)
+    (c .before .get-color2 .ensures)
 
 pub unmappable-colors-spec : {M : Type 1} → statement M
 unmappable-colors-spec =

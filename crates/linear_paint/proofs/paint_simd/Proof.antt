@@ -25,17 +25,23 @@ sub-loop c = search needs
 
 chunk-requires : tie.Need-chunk-requires Inv-loop μ-loop
 chunk-requires c κs =
-    let s5 = c .before .before .before .before .before in
+    let st4 = c .before .before .before .before in
+    let st5 = st4 .before in
+    let s5 = st5 in
     (s5 .pre .0, omega arith, omega arith)
 
 loop-less : tie.Need-loop-less Inv-loop μ-loop
 loop-less c =
-    let s8 = c .before .before .before .before .before .before .before .before in
+    let st4 = c .before .before .before .before in
+    let st8 = st4 .before .before .before .before in
+    let s8 = st8 in
     omega (arith, lane-sizes (s8 .args .l) (s8 .pre .0) .0)
 
 loop-again : tie.Need-loop-again Inv-loop μ-loop
 loop-again c =
-    let s5 = c .before .before .before .before .before in
+    let st4 = c .before .before .before .before in
+    let st5 = st4 .before in
+    let s5 = st5 in
     let s8 = s5 .before .before .before in (
       refl,
       chunk-turn (s5 .loop .inv .1) (lane-sizes _ (s8 .pre .0) .0) (omega arith) (λ xs. length-masked _ _ xs _ (length-map xs _))
@@ -50,7 +56,9 @@ same-length c = search needs
 
 returns : tie.Need-returns Inv-loop μ-loop
 returns c =
-    let s5 = c .before .before .before .before .before in
+    let st4 = c .before .before .before .before in
+    let st5 = st4 .before in
+    let s5 = st5 in
     c .before .before .rest .ensures ∙ chunks-end (s5 .loop .inv .1) (omega arith)
 
 pub paint-simd-spec : {M : Type 1} → statement M

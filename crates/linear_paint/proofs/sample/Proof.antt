@@ -14,7 +14,10 @@ masked-requires : tie.Need-masked-requires
 masked-requires c κs = search needs
 
 returns : tie.Need-returns
-returns c = c .masked .ensures ∙ ap (λ w. cond (excluded (c .before .before .args .p .exclusions) (c .before .before .args .value)) (c .before .before .args .p .colors .nodata) w) (c .before .color-for-numeric-value .ensures)
+returns c =
+    c .masked .ensures ∙ ap
+    (λ w. cond (excluded (c .before .before .args .p .exclusions) (c .before .before .args .value)) (c .before .before .args .p .colors .nodata) w)
+    (c .before .color-for-numeric-value .ensures)
 
 pub sample-spec : {M : Type 1} → statement M
 sample-spec = tie.close (tie.spec color-for-numeric-value-requires masked-requires returns)

@@ -22,7 +22,8 @@ length-refusal-requires c κs = search needs
 
 returns-3 : tie.Need-returns-3
 unfolding laneRefusal
-returns-3 c = simp (sym (c .before .before .before .lane-count .ensures), c .before .before .if1 .left, le-ltb _ _ (c .before .if2 .left)) (c .length-refusal .ensures)
+returns-3 c =
+    simp (sym (c .before .before .before .lane-count .ensures), c .before .before .if1 .left, le-ltb _ _ (c .before .if2 .left)) (c .length-refusal .ensures)
 
 pub buffer-refusal-spec : {M : Type 1} → statement M
 buffer-refusal-spec =

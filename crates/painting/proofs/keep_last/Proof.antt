@@ -21,7 +21,16 @@ sub-copied : tie.Need-sub-copied
 sub-copied c = le-full _ _ (search needs) (c .if1 .left)
 
 copied-requires : tie.Need-copied-requires
-copied-requires c κs = (omega (arith, le-full (length (c .before .before .before .before .args .painted .now)) (c .before .before .before .before .args .l) (search needs) (search needs), div-mul-le-self (length (c .before .before .before .before .args .painted .now)) (c .before .before .before .before .args .l)), search needs)
+copied-requires c κs = (
+  omega (
+    arith,
+    le-full (length (c .before .before .before .before .args .painted .now)) (c .before .before .before .before .args .l) (search needs)
+        (search needs),
+    div-mul-le-self (length (c .before .before .before .before .args .painted .now)) (c .before .before .before .before .args .l),
+  ),
+  search
+      needs,
+)
 
 same-length : tie.Need-same-length
 same-length c = search needs

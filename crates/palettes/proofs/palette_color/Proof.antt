@@ -19,13 +19,30 @@ offset-of-requires : tie.Need-offset-of-requires
 offset-of-requires c κs = known _ (c .before .before .args .index) (omega (arith, c .before .palette-length .ensures))
 
 add-table-color : tie.Need-add-table-color
-add-table-color c = omega (arith, c .offset-of .ensures, c .before .before .palette-length .ensures, offset-room (c .before .before .before .args .number) (known _ (c .before .before .before .args .index) (omega (arith, c .before .before .palette-length .ensures))))
+add-table-color c =
+    omega (
+      arith,
+      c .offset-of .ensures,
+      c .before .before .palette-length .ensures,
+      offset-room (c .before .before .before .args .number)
+          (known _ (c .before .before .before .args .index) (omega (arith, c .before .before .palette-length .ensures))),
+    )
 
 table-color-requires : tie.Need-table-color-requires
-table-color-requires c κs = omega (arith, c .offset-of .ensures, c .before .before .palette-length .ensures, offset-room (c .before .before .before .args .number) (known _ (c .before .before .before .args .index) (omega (arith, c .before .before .palette-length .ensures))))
+table-color-requires c κs =
+    omega (
+      arith,
+      c .offset-of .ensures,
+      c .before .before .palette-length .ensures,
+      offset-room (c .before .before .before .args .number)
+          (known _ (c .before .before .before .args .index) (omega (arith, c .before .before .palette-length .ensures))),
+    )
 
 returns-2 : tie.Need-returns-2
-returns-2 c = let l : c .before .before .before .before .args .index < length (palette (c .before .before .before .before .args .number)) = omega (arith, c .before .before .before .palette-length .ensures) in c .table-color .ensures ∙ ap (λ k. getD paletteTable (k + c .before .before .before .before .args .index) 0) (c .before .offset-of .ensures) ∙ in-table _ (known _ _ l) _ l
+returns-2 c =
+    let l : c .before .before .before .before .args .index < length (palette (c .before .before .before .before .args .number)) = omega
+    (arith, c .before .before .before .palette-length .ensures) in c .table-color .ensures
+    ∙ ap (λ k. getD paletteTable (k + c .before .before .before .before .args .index) 0) (c .before .offset-of .ensures) ∙ in-table _ (known _ _ l) _ l
 
 pub palette-color-spec : {M : Type 1} → statement M
 palette-color-spec =

@@ -19,7 +19,9 @@ put-requires c κs = omega (arith, slice-aggregate-put c)
 returns : tie.Need-returns
 unfolding lookupRow
 returns c =
-    let s6 = c .before .before .before .before .before .before in
+    let st4 = c .before .before .before .before in
+    let st6 = st4 .before .before in
+    let s6 = st6 in
     let s7 = s6 .before in
     let s8 = s7 .before in
     let s10 = s8 .before .before in

@@ -8,7 +8,9 @@ use Rattle.replay_calls.proofs.truncated.Tie as tie
 returns : tie.Need-returns
 unfolding truncatedRow
 returns c =
-    let s = c .before .before .before .before .before .before in
+    let s4 = c .before .before .before .before in
+    let s6 = s4 .before .before in
+    let s = s6 in
     cc (
       c .put3 .ensures,
       c .before .before .put2 .ensures,

@@ -50,7 +50,8 @@ returns c =
     let s10 = s8 .before .before in
     let s12 = s10 .before .before in
     let s13 = s12 .before in
-    row-is (s13 .args .row .now) (s7 .asked .ensures) (s6 .with-answer .ensures) (s5 .total-value-range .ensures) (s4 .with-range .ensures) (s3 .with-record .ensures) (s10 .color-list .ensures) (c .before .put .ensures) (s8 .painted .ensures) (c .with-paintings .ensures) (s12 .made .ensures)
+    row-is (s13 .args .row .now) (s7 .asked .ensures) (s6 .with-answer .ensures) (s5 .total-value-range .ensures) (s4 .with-range .ensures)
+    (s3 .with-record .ensures) (s10 .color-list .ensures) (c .before .put .ensures) (s8 .painted .ensures) (c .with-paintings .ensures) (s12 .made .ensures)
 
 pub legend-row-spec : {M : Type 1} → statement M
 legend-row-spec =

@@ -1,4 +1,5 @@
--- `banded::Banded::new` meets its contract: a walk of its MIR, by hand. All that it knows of the four functions that it calls is that each meets its contract. The slice is Copy: `with_bands` is passed a copy of what it owns, with the token, which comes back.
+-- `banded::Banded::new` meets its contract: a walk of its MIR, by hand. All that it knows of the four functions that it calls is that each meets its contract.
+-- The slice is Copy: `with_bands` is passed a copy of what it owns, with the token, which comes back.
 -- Assumes nothing.
 use mathlib.Core.Path.{_≡_, refl, sym, _∙_, ap, subst}
 use Prim.Native.Nat.{ℕ, _≤_, min}
@@ -18,7 +19,8 @@ use contract.Monad.{Fun}
 use contract.Running.{givenOf, tables, tablesOf}
 use types.Kit.{Given, Item, ‵, _⊛_, ⋆, _$_, _∵_, !, qed, by, move, keep, drop, use1, split, join, fsplit, fjoin, suffices, frame, done}
 use types.Part.{whole, sub, look-in}
-use types.Run.{look, init, forget, stop, fld, from, load, of-opd, and-then, no-more, assigns, land, returns, enter, alloc1, alloc0, params1, pass1, pass0, free1, free0}
+use types.Run.{look, init, forget, stop, fld, from, load, of-opd, and-then, no-more, assigns, land, returns, enter, alloc1, alloc0, params1, pass1, pass0}
+use types.Run.{free1, free0}
 use sound.Laws.{∗emp}
 use sound.WpLaws.{FmC, fmOf, WpFn-mono}
 use denote.RattleType.{owns}
@@ -94,7 +96,8 @@ module _ {M : Type 1} (𝓤 : URA M) (H : Heap 𝓤) (A : Atoms 𝓤) (mem : Mem
     pub with-bands-known : Triple 𝓤 (C #banded·with-bands) WithBands
     pub given-known : Triple 𝓤 (C #banded·given) Giving
 
-module _ {M : Type 1} (𝓤 : URA M) (H : Heap 𝓤) (A : Atoms 𝓤) (W : Given 𝓤 H A) (mem : Memory → SProp 𝓤) (run : Routine → Fun 𝓤) (κ : Lft) (q : Share) (b o : ℕ) (γ : GName) (ys : List LegendBand) (room : Room Band (length ys)) where
+module _ {M : Type 1} (𝓤 : URA M) (H : Heap 𝓤) (A : Atoms 𝓤) (W : Given 𝓤 H A) (mem : Memory → SProp 𝓤) (run : Routine → Fun 𝓤) (κ : Lft) (q : Share) (b o : ℕ)
+    (γ : GName) (ys : List LegendBand) (room : Room Band (length ys)) where
   abbrev x : RefT (List LegendBand)
   x = record { ptr = (b, o); name = γ; now = ys }
 
@@ -114,7 +117,8 @@ module _ {M : Type 1} (𝓤 : URA M) (H : Heap 𝓤) (A : Atoms 𝓤) (W : Given
   exits r v e is =
       qed W (‵ (flft κ q) ∷ Own ∷ []) ∵
       suffices ! _ (ends-at 𝓤 H A f.ended stayed (f.clauses 𝓤 H A mem run) W bound v r (tt, tt) (tt, tt)) $ says ! e $
-      nothing ! $ move ! (1 ∷ 0 ∷ []) $ join ! $ frame ! $ nothing ! $ move ! (1 ∷ 0 ∷ []) $ fjoin ! $ frame ! $ owned ! N.the-row (Is N.the-row) (LL.makes N.the-type N′.the-plain 𝓤 H A) r _ is $ done !
+      nothing ! $ move ! (1 ∷ 0 ∷ []) $ join ! $ frame ! $ nothing ! $ move ! (1 ∷ 0 ∷ []) $ fjoin ! $ frame ! $ owned ! N.the-row (Is N.the-row)
+      (LL.makes N.the-type N′.the-plain 𝓤 H A) r _ is $ done !
 
   module _ (C : Calls 𝓤 H) (Λ : Loops 𝓤 H) (fm : FmC 𝓤 H (W .laws) C) (known : Known 𝓤 H A mem run C) where
     walk : ent 𝓤 (onEntry 𝓤 H A f.signature (κ, tt) (q, tt) (x, tt) (s ∷ [], tt)) (WpFn 𝓤 H C Λ code.function (s ∷ []) Post)
@@ -122,41 +126,60 @@ module _ {M : Type 1} (𝓤 : URA M) (H : Heap 𝓤) (A : Atoms 𝓤) (W : Given
         qed W ((‵ (flft κ q) ⊛ ‵ ftrue) ∷ ‵ (owns (ShrSlice (named 0) κ Band ∷ []) (x, tt) (s ∷ [], tt)) ∷ []) ∵ enter ! C Λ code.function (s ∷ []) _ $
         alloc1 ! (λ l₀. alloc1 ! (λ l₁. alloc1 ! (λ l₂. alloc1 ! (λ l₃. alloc1 ! (λ l₄. alloc1 ! (λ l₅. alloc0 ! $ params1 ! $
         pass1 ! (init ! 8 refl (tt, (tt, (record { fits = room .0 }, tt)))) $ pass0 ! $
-        assigns ! (of-opd ! (load ! (from ! (fld ! refl (stop !))) (look-in ! 8 (sub ! 1 refl (whole !))))) (from ! (stop !)) (init ! 6 refl (tt, record { fits = room .0 })) $
+        assigns ! (of-opd ! (load ! (from ! (fld ! refl (stop !))) (look-in ! 8 (sub ! 1 refl (whole !))))) (from ! (stop !))
+        (init ! 6 refl (tt, record { fits = room .0 })) $
         -- `default`
-        nothing ! $ nothing ! $ join ! $ calls-fact ! fm default.ended (default.clauses 𝓤 H A mem run) (known .default-known) ((tt, tt, tt, tt, tt), tt) (‵ ftrue ⊛ ‵ ftrue) (λ r. r ≡ bandedOf []) (∗emp 𝓤 _) (λ r e. id⊢ 𝓤 _) (no-more !) (λ v₄ r₄ e₄ is₄. drop ! $
+        nothing ! $ nothing ! $ join ! $ calls-fact ! fm default.ended (default.clauses 𝓤 H A mem run) (known .default-known) ((tt, tt, tt, tt, tt), tt)
+        (‵ ftrue ⊛ ‵ ftrue) (λ r. r ≡ bandedOf []) (∗emp 𝓤 _) (λ r e. id⊢ 𝓤 _) (no-more !) (λ v₄ r₄ e₄ is₄. drop ! $
         land ! (from ! (stop !)) (init ! 2 refl (held-typed 𝓤 H A W r₄ v₄ is₄)) $
         -- `at_most_64`
         nothing ! $ owned ! usize (Is usize) (uint-makes 𝓤 H A W w64) (length ys) _ (refl, room .0) $ fjoin ! $ nothing ! $ join ! $
-        calls-fact ! fm at-most.ended (at-most.clauses 𝓤 H A mem run) (known .at-most-known) ((tt, tt, tt, (length ys, tt), (vint w64 (length ys) ∷ [], tt)), tt) (‵ ftrue ⊛ ‵ (owns (usize ∷ []) (length ys, tt) (vint w64 (length ys) ∷ [], tt))) (λ r. r ≡ min (length ys) 64) (∗emp 𝓤 _) (λ r e. id⊢ 𝓤 _)
+        calls-fact ! fm at-most.ended (at-most.clauses 𝓤 H A mem run) (known .at-most-known)
+        ((tt, tt, tt, (length ys, tt), (vint w64 (length ys) ∷ [], tt)), tt) (‵ ftrue ⊛ ‵ (owns (usize ∷ []) (length ys, tt) (vint w64 (length ys) ∷ [], tt)))
+        (λ r. r ≡ min (length ys) 64) (∗emp 𝓤 _) (λ r e. id⊢ 𝓤 _)
         (and-then ! (load ! (from ! (stop !)) (look ! 7 refl)) (no-more !)) (λ v₅ r₅ e₅ is₅. drop ! $
         land ! (from ! (stop !)) (init ! 0 refl (uint-lawful 𝓤 H A W w64 .typed r₅ _ is₅ .0)) $
         -- `with_bands`
         move ! (13 ∷ []) $ fsplit ! $ use1 W (Own ⊛ Own) (shr-slice-copy 𝓤 H A W (named 0) κ Band .twice x (s ∷ [])) $ split ! $
-        nothing ! $ owned ! usize (Is usize) (uint-makes 𝓤 H A W w64) r₅ _ is₅ $ fjoin ! $ move ! (1 ∷ 0 ∷ []) $ fjoin ! $ owned ! Held (Is Held) (held-makes 𝓤 H A W) r₄ _ is₄ $ fjoin ! $ move ! (15 ∷ 0 ∷ []) $ join ! $
-        calls-fact ! fm with-bands.ended (with-bands.clauses 𝓤 H A mem run) (known .with-bands-known) (((κ, tt), (q, tt), tt, (r₄, (x, (r₅, tt))), (v₄ ∷ [], (s ∷ [], (v₅ ∷ [], tt)))), tt)
-        ((‵ (flft κ q) ⊛ ‵ ftrue) ⊛ ‵ (owns (Held ∷ ShrSlice (named 0) κ Band ∷ usize ∷ []) (r₄, (x, (r₅, tt))) (v₄ ∷ [], (s ∷ [], (v₅ ∷ [], tt))))) (λ r. r ≡ folded withBand r₄ (take r₅ ys)) (and-fact 𝓤 _ (subst (λ (k : ℕ). k ≤ length ys) (sym e₅) (at-most-le (length ys)))) (λ r e. id⊢ 𝓤 _)
-        (and-then ! (load ! (from ! (stop !)) (look ! 5 refl)) (and-then ! (load ! (from ! (stop !)) (look ! 11 refl)) (and-then ! (load ! (from ! (stop !)) (look ! 3 refl)) (no-more !)))) (λ v₃ r₃ e₃ is₃.
+        nothing ! $ owned ! usize (Is usize) (uint-makes 𝓤 H A W w64) r₅ _ is₅ $ fjoin ! $ move ! (1 ∷ 0 ∷ []) $ fjoin ! $ owned ! Held (Is Held)
+        (held-makes 𝓤 H A W) r₄ _ is₄ $ fjoin ! $ move ! (15 ∷ 0 ∷ []) $ join ! $
+        calls-fact ! fm with-bands.ended (with-bands.clauses 𝓤 H A mem run) (known .with-bands-known)
+        (((κ, tt), (q, tt), tt, (r₄, (x, (r₅, tt))), (v₄ ∷ [], (s ∷ [], (v₅ ∷ [], tt)))), tt)
+        ((‵ (flft κ q) ⊛ ‵ ftrue) ⊛ ‵ (owns (Held ∷ ShrSlice (named 0) κ Band ∷ usize ∷ []) (r₄, (x, (r₅, tt))) (v₄ ∷ [], (s ∷ [], (v₅ ∷ [], tt)))))
+        (λ r. r ≡ folded withBand r₄ (take r₅ ys)) (and-fact 𝓤 _ (subst (λ (k : ℕ). k ≤ length ys) (sym e₅) (at-most-le (length ys)))) (λ r e. id⊢ 𝓤 _)
+        (and-then ! (load ! (from ! (stop !)) (look ! 5 refl))
+        (and-then ! (load ! (from ! (stop !)) (look ! 11 refl)) (and-then ! (load ! (from ! (stop !)) (look ! 3 refl)) (no-more !)))) (λ v₃ r₃ e₃ is₃.
         land ! (from ! (stop !)) (init ! 7 refl (held-typed 𝓤 H A W r₃ v₃ is₃)) $
         -- `given`
-        nothing ! $ owned ! Held (Is Held) (held-makes 𝓤 H A W) r₃ _ is₃ $ fjoin ! $ owned ! usize (Is usize) (uint-makes 𝓤 H A W w64) (length ys) _ (refl, room .0) $ fjoin ! $ nothing ! $ join ! $
-        calls-fact ! fm given.ended (given.clauses 𝓤 H A mem run) (known .given-known) ((tt, tt, tt, (length ys, (r₃, tt)), (vint w64 (length ys) ∷ [], (v₃ ∷ [], tt))), tt)
-        (‵ ftrue ⊛ ‵ (owns (usize ∷ Held ∷ []) (length ys, (r₃, tt)) (vint w64 (length ys) ∷ [], (v₃ ∷ [], tt)))) (λ r. r ≡ beside (givenRefusal (length ys)) r₃) (∗emp 𝓤 _) (λ r e. id⊢ 𝓤 _)
+        nothing ! $ owned ! Held (Is Held) (held-makes 𝓤 H A W) r₃ _ is₃ $ fjoin ! $ owned ! usize (Is usize) (uint-makes 𝓤 H A W w64) (length ys) _
+        (refl, room .0) $ fjoin ! $ nothing ! $ join ! $
+        calls-fact ! fm given.ended (given.clauses 𝓤 H A mem run) (known .given-known)
+        ((tt, tt, tt, (length ys, (r₃, tt)), (vint w64 (length ys) ∷ [], (v₃ ∷ [], tt))), tt)
+        (‵ ftrue ⊛ ‵ (owns (usize ∷ Held ∷ []) (length ys, (r₃, tt)) (vint w64 (length ys) ∷ [], (v₃ ∷ [], tt))))
+        (λ r. r ≡ beside (givenRefusal (length ys)) r₃) (∗emp 𝓤 _) (λ r e. id⊢ 𝓤 _)
         (and-then ! (load ! (from ! (stop !)) (look ! 10 refl)) (and-then ! (load ! (from ! (stop !)) (look ! 8 refl)) (no-more !))) (λ v₀ r₀ e₀ is₀. drop ! $
         land ! (from ! (stop !)) (init ! 13 refl (LL.lawful N.the-type N′.the-laws 𝓤 H A W .typed r₀ _ is₀ .0)) $
         returns ! (look ! 13 refl) $ forget ! 3 refl $ forget ! 5 refl $ forget ! 7 refl $ forget ! 9 refl $ forget ! 11 refl $ forget ! 13 refl $
-        move ! (13 ∷ 14 ∷ []) $ free1 ! $ move ! (11 ∷ 12 ∷ []) $ free1 ! $ move ! (9 ∷ 10 ∷ []) $ free1 ! $ move ! (7 ∷ 8 ∷ []) $ free1 ! $ move ! (5 ∷ 6 ∷ []) $ free1 ! $ move ! (3 ∷ 4 ∷ []) $ free1 ! $ free0 ! $
+        move ! (13 ∷ 14 ∷ []) $ free1 ! $ move ! (11 ∷ 12 ∷ []) $ free1 ! $ move ! (9 ∷ 10 ∷ []) $ free1 ! $ move ! (7 ∷ 8 ∷ []) $ free1 ! $ move !
+        (5 ∷ 6 ∷ []) $ free1 ! $ move ! (3 ∷ 4 ∷ []) $ free1 ! $ free0 ! $
         use1 W (‵ (flft κ q) ⊛ ‵ ftrue) (id⊢ 𝓤 _) $ split ! $ keep ! (0 ∷ 2 ∷ []) $
         by ! (exits r₀ v₀ (e₀ ∙ ap (beside (givenRefusal (length ys))) (e₃ ∙ (λ j. folded withBand (e₄ j) (take (e₅ j) ys))) ∙ is-given ys) is₀)))))))))))
 
 module _ {M : Type 1} (𝓤 : URA M) (H : Heap 𝓤) (A : Atoms 𝓤) (W : Given 𝓤 H A) (mem : Memory → SProp 𝓤) (run : Routine → Fun 𝓤) where
-  new-walks : (C : Calls 𝓤 H) (Λ : Loops 𝓤 H) → FmC 𝓤 H (W .laws) C → Known 𝓤 H A mem run C → Walks 𝓤 H A f.ended stayed (WpFn 𝓤 H C Λ code.function) (f.clauses 𝓤 H A mem run)
-  new-walks C Λ fm known = walked 𝓤 H A f.ended stayed (f.clauses 𝓤 H A mem run) (WpFn 𝓤 H C Λ code.function) (λ κs. (slice-vals, tt)) (λ κs. (shr-slice-tells (named 0) (κs .0) Band, tt))
-      (λ κs qs bounds a g are. via 𝓤 _ (fst∗ 𝓤 _ (emp 𝓤)) (walk 𝓤 H A W mem run (κs .0) (qs .0) (a .0 .ptr .0) (a .0 .ptr .1) (a .0 .name) (a .0 .now) (are .0 .0 .1) C Λ fm known))
+  new-walks : (C : Calls 𝓤 H) (Λ : Loops 𝓤 H) → FmC 𝓤 H (W .laws) C → Known 𝓤 H A mem run C → Walks 𝓤 H A f.ended stayed (WpFn 𝓤 H C Λ code.function)
+      (f.clauses 𝓤 H A mem run)
+  new-walks C Λ fm known =
+      walked 𝓤 H A f.ended stayed (f.clauses 𝓤 H A mem run) (WpFn 𝓤 H C Λ code.function) (λ κs. (slice-vals, tt))
+      (λ κs. (shr-slice-tells (named 0) (κs .0) Band, tt))
+      (λ κs qs bounds a g are. via 𝓤 _ (fst∗ 𝓤 _ (emp 𝓤))
+      (walk 𝓤 H A W mem run (κs .0) (qs .0) (a .0 .ptr .0) (a .0 .ptr .1) (a .0 .name) (a .0 .now) (are .0 .0 .1) C Λ fm known))
 
-new-meets : {M : Type 1} (𝓤 : URA M) (H : Heap 𝓤) (A : Atoms 𝓤) → Given 𝓤 H A → (mem : Memory → SProp 𝓤) (run : Routine → Fun 𝓤) (𝓣 : Tables 𝓤 H) → Known 𝓤 H A mem run (𝓣 .C)
+new-meets : {M : Type 1} (𝓤 : URA M) (H : Heap 𝓤) (A : Atoms 𝓤) → Given 𝓤 H A → (mem : Memory → SProp 𝓤) (run : Routine → Fun 𝓤) (𝓣 : Tables 𝓤 H)
+    → Known 𝓤 H A mem run (𝓣 .C)
     → Meets 𝓤 H A f.signature (WpFn 𝓤 H (𝓣 .C) (𝓣 .Λ) code.function) (f.spec 𝓤 H A mem run)
-new-meets 𝓤 H A W mem run 𝓣 known = walk-meets 𝓤 H A f.ended stayed W (goes-none-slice 𝓤 H A W 1 (0 ∷ []) tt (plain (λ _. Band)) yes, tt) (f.clauses 𝓤 H A mem run) (WpFn 𝓤 H (𝓣 .C) (𝓣 .Λ) code.function) (WpFn-mono 𝓤 H (W .laws) 𝓣 code.function)
+new-meets 𝓤 H A W mem run 𝓣 known =
+    walk-meets 𝓤 H A f.ended stayed W (goes-none-slice 𝓤 H A W 1 (0 ∷ []) tt (plain (λ _. Band)) yes, tt) (f.clauses 𝓤 H A mem run)
+    (WpFn 𝓤 H (𝓣 .C) (𝓣 .Λ) code.function) (WpFn-mono 𝓤 H (W .laws) 𝓣 code.function)
     (new-walks 𝓤 H A W mem run (𝓣 .C) (𝓣 .Λ) (fmOf 𝓤 H (W .laws) 𝓣) known)
 
 pub new-spec : {M : Type 1} → stated.statement M
@@ -165,8 +188,15 @@ new-spec 𝓤 H 𝓜 𝓖 𝓡 =
     entered 𝓤 H (tripleOf 𝓤 H (𝓖 .A) f.signature (f.spec 𝓤 H (𝓖 .A) (𝓜 .mem) (𝓡 .run)))
     (tables 𝓤 H 𝓜 𝓡 code.env .C) (tables 𝓤 H 𝓜 𝓡 code.env .Λ) #banded·new code.function (code.unfolded 𝓤 H 𝓜 𝓡)
     (new-meets 𝓤 H (𝓖 .A) (givenOf 𝓤 H 𝓜 𝓖) (𝓜 .mem) (𝓡 .run) (tablesOf 𝓤 H 𝓜 (tables 𝓤 H 𝓜 𝓡 code.env)) (record {
-      default-known = cited 𝓤 H (Default 𝓤 H (𝓖 .A) (𝓜 .mem) (𝓡 .run)) 𝓜 𝓡 code.env #banded·default default-def.routine code.calls-banded·Banded·default (default-thm.met 𝓤 H 𝓜 𝓖 𝓡);
-      at-most-known = cited 𝓤 H (AtMost 𝓤 H (𝓖 .A) (𝓜 .mem) (𝓡 .run)) 𝓜 𝓡 code.env #at-most-64 at-most-def.routine code.calls-banded-columns·at-most-64 (at-most-thm.met 𝓤 H 𝓜 𝓖 𝓡);
-      with-bands-known = cited 𝓤 H (WithBands 𝓤 H (𝓖 .A) (𝓜 .mem) (𝓡 .run)) 𝓜 𝓡 code.env #banded·with-bands with-bands-def.routine code.calls-banded·with-bands (with-bands-thm.met 𝓤 H 𝓜 𝓖 𝓡);
-      given-known = cited 𝓤 H (Giving 𝓤 H (𝓖 .A) (𝓜 .mem) (𝓡 .run)) 𝓜 𝓡 code.env #banded·given given-def.routine code.calls-banded·given (given-thm.met 𝓤 H 𝓜 𝓖 𝓡);
+      default-known =
+          cited 𝓤 H (Default 𝓤 H (𝓖 .A) (𝓜 .mem) (𝓡 .run)) 𝓜 𝓡 code.env #banded·default default-def.routine code.calls-banded·Banded·default
+          (default-thm.met 𝓤 H 𝓜 𝓖 𝓡);
+      at-most-known =
+          cited 𝓤 H (AtMost 𝓤 H (𝓖 .A) (𝓜 .mem) (𝓡 .run)) 𝓜 𝓡 code.env #at-most-64 at-most-def.routine code.calls-banded-columns·at-most-64
+          (at-most-thm.met 𝓤 H 𝓜 𝓖 𝓡);
+      with-bands-known =
+          cited 𝓤 H (WithBands 𝓤 H (𝓖 .A) (𝓜 .mem) (𝓡 .run)) 𝓜 𝓡 code.env #banded·with-bands with-bands-def.routine code.calls-banded·with-bands
+          (with-bands-thm.met 𝓤 H 𝓜 𝓖 𝓡);
+      given-known =
+          cited 𝓤 H (Giving 𝓤 H (𝓖 .A) (𝓜 .mem) (𝓡 .run)) 𝓜 𝓡 code.env #banded·given given-def.routine code.calls-banded·given (given-thm.met 𝓤 H 𝓜 𝓖 𝓡);
     }))

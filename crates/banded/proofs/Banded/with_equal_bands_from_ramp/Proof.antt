@@ -18,7 +18,12 @@ default-requires : tie.Need-default-requires
 default-requires c κs = search needs
 
 returns : tie.Need-returns
-returns c = equal-refused (c .before .before .before .before .args .count) (c .before .before .before .before .args .start) (c .before .before .before .before .args .end) (rampColors (c .before .before .before .before .args .count) (c .before .before .before .before .args .cmap .now)) (sym (ramp-count (c .before .before .before .before .args .count) (c .before .before .before .before .args .cmap .now))) (c .before .before .before .equal-refusal .ensures) (c .before .enum-told .given .1) (c .default .ensures)
+returns c =
+    equal-refused (c .before .before .before .before .args .count) (c .before .before .before .before .args .start)
+    (c .before .before .before .before .args .end)
+    (rampColors (c .before .before .before .before .args .count) (c .before .before .before .before .args .cmap .now))
+    (sym (ramp-count (c .before .before .before .before .args .count) (c .before .before .before .before .args .cmap .now)))
+    (c .before .before .before .equal-refusal .ensures) (c .before .enum-told .given .1) (c .default .ensures)
 
 enum-told-2 : tie.Need-enum-told-2
 enum-told-2 c = search needs
@@ -30,7 +35,12 @@ equal-bands-requires : tie.Need-equal-bands-requires
 equal-bands-requires c κs = equal-few _ _ _ _ (sym (c .before .before .before .equal-refusal .ensures) ∙ c .before .enum-told2 .given .1)
 
 returns-2 : tie.Need-returns-2
-returns-2 c = equal-made (c .before .before .before .before .before .args .count) (c .before .before .before .before .before .args .start) (c .before .before .before .before .before .args .end) (rampColors (c .before .before .before .before .before .args .count) (c .before .before .before .before .before .args .cmap .now)) (sym (ramp-count (c .before .before .before .before .before .args .count) (c .before .before .before .before .before .args .cmap .now))) (c .before .before .before .before .equal-refusal .ensures) (c .before .before .enum-told2 .given .1) (c .before .ramp-colors .ensures) (c .equal-bands .ensures)
+returns-2 c =
+    let s4 = c .before .before .before .before in
+    let s5 = s4 .before in
+    equal-made (s5 .args .count) (s5 .args .start) (s5 .args .end) (rampColors (s5 .args .count) (s5 .args .cmap .now))
+    (sym (ramp-count (s5 .args .count) (s5 .args .cmap .now))) (c .before .before .before .before .equal-refusal .ensures)
+    (c .before .before .enum-told2 .given .1) (c .before .ramp-colors .ensures) (c .equal-bands .ensures)
 
 pub with-equal-bands-from-ramp-spec : {M : Type 1} → statement M
 with-equal-bands-from-ramp-spec =

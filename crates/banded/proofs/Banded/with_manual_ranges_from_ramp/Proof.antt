@@ -19,19 +19,34 @@ default-requires : tie.Need-default-requires
 default-requires c κs = search needs
 
 returns : tie.Need-returns
-returns c = manual-refused (c .before .before .before .before .args .values) (rampColors (c .before .before .before .before .args .values .count) (c .before .before .before .before .args .cmap .now)) (sym (ramp-count (c .before .before .before .before .args .values .count) (c .before .before .before .before .args .cmap .now))) (c .before .before .before .manual-refusal .ensures) (c .before .enum-told .given .1) (c .default .ensures)
+returns c =
+    manual-refused (c .before .before .before .before .args .values)
+    (rampColors (c .before .before .before .before .args .values .count) (c .before .before .before .before .args .cmap .now))
+    (sym (ramp-count (c .before .before .before .before .args .values .count) (c .before .before .before .before .args .cmap .now)))
+    (c .before .before .before .manual-refusal .ensures) (c .before .enum-told .given .1) (c .default .ensures)
 
 enum-told-2 : tie.Need-enum-told-2
 enum-told-2 c = search needs
 
 ramp-colors-requires : tie.Need-ramp-colors-requires
-ramp-colors-requires c κs = let h = manual-few (c .before .before .before .before .args .values) _ (sym (c .before .before .before .manual-refusal .ensures) ∙ c .before .enum-told2 .given .1) in omega arith
+ramp-colors-requires c κs =
+    let h = manual-few (c .before .before .before .before .args .values) _
+    (sym (c .before .before .before .manual-refusal .ensures) ∙ c .before .enum-told2 .given .1) in omega arith
 
 range-bands-requires : tie.Need-range-bands-requires
-range-bands-requires c κs = manual-few (c .before .before .before .before .before .args .values) _ (sym (c .before .before .before .before .manual-refusal .ensures) ∙ c .before .before .enum-told2 .given .1)
+range-bands-requires c κs =
+    let s4 = c .before .before .before .before in
+    let s5 = s4 .before in
+    manual-few (s5 .args .values) _ (sym (c .before .before .before .before .manual-refusal .ensures) ∙ c .before .before .enum-told2 .given .1)
 
 returns-2 : tie.Need-returns-2
-returns-2 c = manual-made (c .before .before .before .before .before .before .args .values) (rampColors (c .before .before .before .before .before .before .args .values .count) (c .before .before .before .before .before .before .args .cmap .now)) (sym (ramp-count (c .before .before .before .before .before .before .args .values .count) (c .before .before .before .before .before .before .args .cmap .now))) (c .before .before .before .before .before .manual-refusal .ensures) (c .before .before .before .enum-told2 .given .1) (c .before .ramp-colors .ensures) (c .range-bands .ensures)
+returns-2 c =
+    let s4 = c .before .before .before .before in
+    let s5 = s4 .before in
+    let s6 = s5 .before in
+    manual-made (s6 .args .values) (rampColors (s6 .args .values .count) (s6 .args .cmap .now))
+    (sym (ramp-count (s6 .args .values .count) (s6 .args .cmap .now))) (s5 .manual-refusal .ensures) (c .before .before .before .enum-told2 .given .1)
+    (c .before .ramp-colors .ensures) (c .range-bands .ensures)
 
 pub with-manual-ranges-from-ramp-spec : {M : Type 1} → statement M
 with-manual-ranges-from-ramp-spec =

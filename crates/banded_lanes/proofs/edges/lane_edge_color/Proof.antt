@@ -24,7 +24,17 @@ pick-requires-4 c κs = search needs
 
 returns : tie.Need-returns
 unfolding edged
-returns c = simp (c .pick4 .ensures, c .before .is-within2 .ensures, c .before .before .pick3 .ensures, c .before .before .before .is-within .ensures, c .before .before .before .before .pick2 .ensures, c .before .before .before .before .before .before .pick .ensures)
+returns c =
+    let s4 = c .before .before .before .before in
+    let s6 = s4 .before .before in
+    simp (
+      c .pick4 .ensures,
+      c .before .is-within2 .ensures,
+      c .before .before .pick3 .ensures,
+      c .before .before .before .is-within .ensures,
+      c .before .before .before .before .pick2 .ensures,
+      s6 .pick .ensures,
+    )
 
 pub lane-edge-color-spec : {M : Type 1} → statement M
 lane-edge-color-spec =

@@ -1,4 +1,4 @@
--- `advance_indices` meets its contract: the loop fills each place with the one that was there, moved on by a flag. Assumes nothing.
+-- `advance_indices` meets its contract: the loop fills each index with the one that was there, moved on by a flag. Assumes nothing.
 use borrow.Author.Needs.{needs}
 use Prim.Native.Nat.{ℕ, _+_, _-_}
 use mathlib.Core.Path.{ap}
@@ -13,10 +13,10 @@ use Rattle.banded_search.proofs.indices.advance_indices.Statement.{stat
 use Rattle.banded_search.proofs.indices.advance_indices.Tie as tie
 
 abbrev Inv-loop : tie.InvT-loop
-Inv-loop lanes start value places result₀ i₀ result i = Storing 0 (λ k. getD places k 0 + cond (le start (getD value k nan)) 1 0) 16 lanes i result
+Inv-loop lanes start value indices result₀ i₀ result i = Storing 0 (λ k. getD indices k 0 + cond (le start (getD value k nan)) 1 0) 16 lanes i result
 
 abbrev μ-loop : tie.MeasureT-loop
-μ-loop lanes start value places result₀ i₀ result i = lanes - i
+μ-loop lanes start value indices result₀ i₀ result i = lanes - i
 
 loop-holds : tie.Need-loop-holds Inv-loop μ-loop
 loop-holds c = storing-start

@@ -1,9 +1,9 @@
--- `band_indices` meets its contract: the invariant says that each lane's place counts the starts passed. Assumes nothing.
+-- `band_indices` meets its contract: the invariant says that each lane's index counts the starts passed. Assumes nothing.
 use borrow.Author.Needs.{needs}
 use Prim.Native.Nat.{ℕ, _+_, _-_, _<_, min}
 use mathlib.Core.Path.{_≡_, subst}
 use native.Mathlib.Omega.{arith}
-use Rattle.banded_search.proofs.Indexing.{placed-start, placed-turn}
+use Rattle.banded_search.proofs.Indexing.{indexed-start, indexed-turn}
 use Rattle.banded_search.specs.forms.Indices.{BandIndices}
 use Rattle.banded_search.proofs.indices.band_indices.Statement.{statement}
 use Rattle.banded_search.proofs.indices.band_indices.Tie as tie
@@ -15,7 +15,7 @@ abbrev μ-loop : tie.MeasureT-loop
 μ-loop lanes starts count value result₀ i₀ result i = count - i
 
 loop-holds : tie.Need-loop-holds Inv-loop μ-loop
-loop-holds c = let a = c .args in (omega arith, placed-start (a .lanes) (a .starts .now) (a .value) (min 1 (a .count)) (omega arith) (omega arith))
+loop-holds c = let a = c .args in (omega arith, indexed-start (a .lanes) (a .starts .now) (a .value) (min 1 (a .count)) (omega arith) (omega arith))
 
 element-copy-out-advance-indices : tie.Need-element-copy-out-advance-indices Inv-loop μ-loop
 element-copy-out-advance-indices c = search needs
@@ -33,7 +33,8 @@ loop-again c =
     let so-far = subst (λ (n : ℕ). BandIndices (a .lanes) (a .starts .now) n (a .value) (l .loop .result)) d (l .loop .inv .1) in (
       omega arith,
       subst (λ (n : ℕ). BandIndices (a .lanes) (a .starts .now) n (a .value) (c .advance-indices .result)) e
-          (placed-turn (a .lanes) (a .starts .now) (a .value) (c .advance-indices .result) (l .loop .inv .0) (omega arith) so-far (c .advance-indices .ensures)),
+          (indexed-turn (a .lanes) (a .starts .now) (a .value) (c .advance-indices .result) (l .loop .inv .0) (omega arith) so-far
+          (c .advance-indices .ensures)),
     )
 
 returns : tie.Need-returns Inv-loop μ-loop

@@ -22,11 +22,15 @@ to-c-requires-2 c κs = search needs
 
 returns : tie.Need-returns
 unfolding listToC
-returns c = known (λ f. listToC f (c .before .before .before .before .args .list)) (c .before .enum-told .given .1) (λ j. record { answer = (c .to-c .ensures ∙ ap answerToC (c .before .enum-told .given .1)) j; colors = replicate 256 0 })
+returns c =
+    known (λ f. listToC f (c .before .before .before .before .args .list)) (c .before .enum-told .given .1)
+    (λ j. record { answer = (c .to-c .ensures ∙ ap answerToC (c .before .enum-told .given .1)) j; colors = replicate 256 0 })
 
 returns-2 : tie.Need-returns-2
 unfolding listToC
-returns-2 c = let l = c .before .before .before .before .args .list in known (λ f. listToC f l) (c .before .enum-told2 .given .1) (λ j. record { answer = c .to-c2 .ensures j; colors = l .colors })
+returns-2 c =
+    let l = c .before .before .before .before .args .list in known (λ f. listToC f l) (c .before .enum-told2 .given .1)
+    (λ j. record { answer = c .to-c2 .ensures j; colors = l .colors })
 
 pub list-to-c-spec : {M : Type 1} → statement M
 list-to-c-spec = tie.close (tie.spec enum-told to-c-requires enum-told-2 to-c-requires-2 returns returns-2)

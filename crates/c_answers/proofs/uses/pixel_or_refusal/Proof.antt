@@ -20,7 +20,8 @@ to-c-requires-2 c κs = search needs
 
 returns : tie.Need-returns
 unfolding pixelToC
-returns c = known (pixelToC Done) (c .before .before .pixel .given .1) (λ j. record { answer = c .to-c .ensures j; color = c .before .before .pixel .given .0 .0 })
+returns c =
+    known (pixelToC Done) (c .before .before .pixel .given .1) (λ j. record { answer = c .to-c .ensures j; color = c .before .before .pixel .given .0 .0 })
 
 returns-2 : tie.Need-returns-2
 unfolding pixelToC

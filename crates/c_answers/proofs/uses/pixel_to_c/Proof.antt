@@ -21,7 +21,9 @@ pixel-or-refusal-requires c κs = search needs
 
 returns : tie.Need-returns
 unfolding pixelToC
-returns c = known (λ f. pixelToC f (c .before .before .before .args .pixel)) (c .before .enum-told .given .1) (λ j. record { answer = (c .to-c .ensures ∙ ap answerToC (c .before .enum-told .given .1)) j; color = 0 })
+returns c =
+    known (λ f. pixelToC f (c .before .before .before .args .pixel)) (c .before .enum-told .given .1)
+    (λ j. record { answer = (c .to-c .ensures ∙ ap answerToC (c .before .enum-told .given .1)) j; color = 0 })
 
 returns-2 : tie.Need-returns-2
 unfolding pixelToC

@@ -22,7 +22,9 @@ to-c-requires-2 c κs = search needs
 
 returns : tie.Need-returns
 unfolding rangeToC
-returns c = known (rangeToC Done) (c .before .before .range .given .1) (λ j. record { answer = c .to-c .ensures j; start = c .before .before .range .given .0 .0 .start; end = c .before .before .range .given .0 .0 .end })
+returns c =
+    known (rangeToC Done) (c .before .before .range .given .1)
+    (λ j. record { answer = c .to-c .ensures j; start = c .before .before .range .given .0 .0 .start; end = c .before .before .range .given .0 .0 .end })
 
 returns-2 : tie.Need-returns-2
 unfolding rangeToC ofBits

@@ -23,7 +23,9 @@ range-or-refusal-requires c κs = search needs
 
 returns : tie.Need-returns
 unfolding rangeToC ofBits
-returns c = known (λ f. rangeToC f (c .before .before .before .args .range)) (c .before .enum-told .given .1) (λ j. record { answer = (c .to-c .ensures ∙ ap answerToC (c .before .enum-told .given .1)) j; start = nought; end = nought })
+returns c =
+    known (λ f. rangeToC f (c .before .before .before .args .range)) (c .before .enum-told .given .1)
+    (λ j. record { answer = (c .to-c .ensures ∙ ap answerToC (c .before .enum-told .given .1)) j; start = nought; end = nought })
 
 returns-2 : tie.Need-returns-2
 unfolding rangeToC

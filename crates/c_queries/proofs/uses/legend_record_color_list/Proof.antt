@@ -20,7 +20,9 @@ list-to-c-requires : tie.Need-list-to-c-requires
 list-to-c-requires c κs = search needs
 
 returns : tie.Need-returns
-returns c = with-both listToC (c .list-to-c .ensures) (c .before .legend-refusal .ensures) (c .before .before .color-list .ensures ∙ ap colorList (c .before .before .before .legend-from-c .ensures))
+returns c =
+    with-both listToC (c .list-to-c .ensures) (c .before .legend-refusal .ensures)
+    (c .before .before .color-list .ensures ∙ ap colorList (c .before .before .before .legend-from-c .ensures))
 
 pub legend-record-color-list-spec : {M : Type 1} → statement M
 legend-record-color-list-spec =

@@ -20,7 +20,9 @@ range-to-c-requires : tie.Need-range-to-c-requires
 range-to-c-requires c κs = search needs
 
 returns : tie.Need-returns
-returns c = with-both rangeToC (c .range-to-c .ensures) (c .before .legend-refusal .ensures) (c .before .before .total-value-range .ensures ∙ ap totalValueRange (c .before .before .before .legend-from-c .ensures))
+returns c =
+    with-both rangeToC (c .range-to-c .ensures) (c .before .legend-refusal .ensures)
+    (c .before .before .total-value-range .ensures ∙ ap totalValueRange (c .before .before .before .legend-from-c .ensures))
 
 pub legend-record-total-value-range-spec : {M : Type 1} → statement M
 legend-record-total-value-range-spec =

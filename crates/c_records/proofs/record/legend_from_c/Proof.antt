@@ -12,7 +12,17 @@ settings-from-c-requires c κs = search needs
 
 returns : tie.Need-returns
 unfolding legendFromC
-returns c = let r = c .before .before .before .before .before .before .args .stored in λ j. record { kind = c .before .kind-from-c .ensures j; linear = r .linear; banded = r .banded; categoric = r .categoric; «mapping_config» = c .settings-from-c .ensures j }
+returns c =
+    let s4 = c .before .before .before .before in
+    let s6 = s4 .before .before in
+    let r = s6 .args .stored in
+    λ j. record {
+      kind = c .before .kind-from-c .ensures j;
+      linear = r .linear;
+      banded = r .banded;
+      categoric = r .categoric;
+      «mapping_config» = c .settings-from-c .ensures j;
+    }
 
 pub legend-from-c-spec : {M : Type 1} → statement M
 legend-from-c-spec = tie.close (tie.spec kind-from-c-requires settings-from-c-requires returns)

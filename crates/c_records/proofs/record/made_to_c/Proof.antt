@@ -31,14 +31,21 @@ record-to-c-requires-2 c κs = search needs
 returns : tie.Need-returns
 unfolding madeToC
 returns c =
+    let s4 = c .before .before .before .before in
+    let s6 = s4 .before .before in
     let refused = c .before .before .before .enum-told .given .1 in
-    known (λ f. madeToC f (c .before .before .before .before .before .before .args .made)) refused
-    (λ j. record { answer = (c .before .before .to-c .ensures ∙ ap answerToC refused) j; legend = (c .record-to-c .ensures ∙ ap recordToC (c .before .empty .ensures)) j })
+    known (λ f. madeToC f (s6 .args .made)) refused
+    (λ j. record {
+      answer = (c .before .before .to-c .ensures ∙ ap answerToC refused) j;
+      legend = (c .record-to-c .ensures ∙ ap recordToC (c .before .empty .ensures)) j;
+    })
 
 returns-2 : tie.Need-returns-2
 unfolding madeToC
 returns-2 c =
-    known (λ f. madeToC f (c .before .before .before .before .before .args .made)) (c .before .before .enum-told2 .given .1)
+    let s4 = c .before .before .before .before in
+    let s5 = s4 .before in
+    known (λ f. madeToC f (s5 .args .made)) (c .before .before .enum-told2 .given .1)
     (λ j. record { answer = c .before .to-c2 .ensures j; legend = c .record-to-c2 .ensures j })
 
 pub made-to-c-spec : {M : Type 1} → statement M

@@ -12,7 +12,17 @@ settings-to-c-requires c κs = search needs
 
 returns : tie.Need-returns
 unfolding recordToC
-returns c = let l = c .before .before .before .before .before .before .args .made in λ j. record { kind = c .before .kind-to-c .ensures j; settings = c .settings-to-c .ensures j; linear = l .linear; banded = l .banded; categoric = l .categoric }
+returns c =
+    let s4 = c .before .before .before .before in
+    let s6 = s4 .before .before in
+    let l = s6 .args .made in
+    λ j. record {
+      kind = c .before .kind-to-c .ensures j;
+      settings = c .settings-to-c .ensures j;
+      linear = l .linear;
+      banded = l .banded;
+      categoric = l .categoric;
+    }
 
 pub record-to-c-spec : {M : Type 1} → statement M
 record-to-c-spec = tie.close (tie.spec kind-to-c-requires settings-to-c-requires returns)

@@ -12,7 +12,16 @@ settings-from-c-requires c κs = search needs
 
 returns : tie.Need-returns
 unfolding viewFromC
-returns c = let a = c .before .before .before .args in λ j. record { kind = c .before .kind-from-c .ensures j; start = a .given .start; end = a .given .end; banded = a .banded; count = a .given .count; «lookup_count» = a .given .«lookup_count»; «mapping_config» = c .settings-from-c .ensures j }
+returns c =
+    let a = c .before .before .before .args in λ j. record {
+      kind = c .before .kind-from-c .ensures j;
+      start = a .given .start;
+      end = a .given .end;
+      banded = a .banded;
+      count = a .given .count;
+      «lookup_count» = a .given .«lookup_count»;
+      «mapping_config» = c .settings-from-c .ensures j;
+    }
 
 pub view-from-c-spec : {M : Type 1} → statement M
 view-from-c-spec = tie.close (tie.spec kind-from-c-requires settings-from-c-requires returns)

@@ -13,7 +13,13 @@ color-if-requires-2 c κs = search needs
 
 returns : tie.Need-returns
 unfolding settingsFromC
-returns c = let s = c .before .before .before .args .settings in λ j. record { «nodata_color» = s .«nodata_color»; «out_of_range_low_color» = c .before .before .color-if .ensures j; «out_of_range_high_color» = c .before .color-if2 .ensures j; «zero_is_nodata» = eqb (s .«zero_is_nodata») 1 }
+returns c =
+    let s = c .before .before .before .args .settings in λ j. record {
+      «nodata_color» = s .«nodata_color»;
+      «out_of_range_low_color» = c .before .before .color-if .ensures j;
+      «out_of_range_high_color» = c .before .color-if2 .ensures j;
+      «zero_is_nodata» = eqb (s .«zero_is_nodata») 1;
+    }
 
 pub settings-from-c-spec : {M : Type 1} → statement M
 settings-from-c-spec = tie.close (tie.spec color-if-requires color-if-requires-2 returns)

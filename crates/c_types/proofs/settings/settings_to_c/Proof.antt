@@ -21,7 +21,17 @@ flag-of-requires c κs = search needs
 
 returns : tie.Need-returns
 unfolding settingsToC
-returns c = λ j. record { «nodata_color» = c .before .before .before .before .before .args .config .«nodata_color»; «low_color» = c .before .before .before .before .unwrap-or .ensures j; «high_color» = c .before .before .before .unwrap-or2 .ensures j; «has_low» = c .before .before .given-flag .ensures j; «has_high» = c .before .given-flag2 .ensures j; «zero_is_nodata» = c .flag-of .ensures j }
+returns c =
+    let s4 = c .before .before .before .before in
+    let s5 = s4 .before in
+    λ j. record {
+      «nodata_color» = s5 .args .config .«nodata_color»;
+      «low_color» = c .before .before .before .before .unwrap-or .ensures j;
+      «high_color» = c .before .before .before .unwrap-or2 .ensures j;
+      «has_low» = c .before .before .given-flag .ensures j;
+      «has_high» = c .before .given-flag2 .ensures j;
+      «zero_is_nodata» = c .flag-of .ensures j;
+    }
 
 pub settings-to-c-spec : {M : Type 1} → statement M
 settings-to-c-spec =

@@ -14,7 +14,9 @@ masked-requires : tie.Need-masked-requires
 masked-requires c κs = search needs
 
 returns : tie.Need-returns
-returns c = c .masked .ensures ∙ ap (λ w. cond (excluded (c .before .before .args .p .exclusions) (c .before .before .args .value)) (c .before .before .args .p .nodata) w) (c .before .key-color .ensures)
+returns c =
+    c .masked .ensures ∙ ap (λ w. cond (excluded (c .before .before .args .p .exclusions) (c .before .before .args .value)) (c .before .before .args .p .nodata)
+    w) (c .before .key-color .ensures)
 
 pub key-sample-spec : {M : Type 1} → statement M
 key-sample-spec = tie.close (tie.spec key-color-requires masked-requires returns)

@@ -19,8 +19,12 @@ same-length c = search needs
 
 returns : tie.Need-returns
 returns c =
-    let s = c .before .before .before .before .before in
-    let a = s .before .before .before .before .before .args in
+    let s4 = c .before .before .before .before in
+    let s5 = s4 .before in
+    let s = s5 in
+    let st4 = s .before .before .before .before in
+    let st5 = st4 .before in
+    let a = st5 .args in
     c .before .before .paint-by-search .ensures ∙ searched-is (a .colors .now) (a .p) (a .src .now) (s .narrowed .ensures)
 
 paint-by-scan-requires : tie.Need-paint-by-scan-requires

@@ -30,7 +30,9 @@ block-by-search-requires c κs = (omega arith, omega arith)
 
 loop-again : tie.Need-loop-again Inv-loop μ-loop
 loop-again c =
-    let s = c .before .before .before .before .before in (
+    let s4 = c .before .before .before .before in
+    let s5 = s4 .before in
+    let s = s5 in (
       refl,
       omega arith,
       omega arith,
@@ -45,7 +47,9 @@ same-length c = search needs
 
 returns : tie.Need-returns Inv-loop μ-loop
 returns c =
-    let s = c .before .before .before .before .before in
+    let s4 = c .before .before .before .before in
+    let s5 = s4 .before in
+    let s = s5 in
     c .before .before .rest-by-search .ensures
     ∙ chunks-end (s .loop .inv .3) (omega arith)
     ∙ plain-in-blocks 16 _ _

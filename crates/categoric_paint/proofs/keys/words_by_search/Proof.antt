@@ -25,7 +25,8 @@ returns c =
     let e = excluded (a .p .exclusions) in
     lanes-masked e (a .p .nodata) 16 (c .masked-simd .result) (a .v) (found .result) (search needs) (search needs) (search needs)
     (lane-at (c .masked-simd .ensures) 0)
-    ∙ ap (masked e (a .p .nodata) (take 16 (a .v))) (lanes-list nan 0 (searchColor (a .narrow .now) (a .colors .now) (a .p .nodata)) 16 (found .result) (a .v) (search needs) (search needs) (found .ensures))
+    ∙ ap (masked e (a .p .nodata) (take 16 (a .v))) (lanes-list nan 0 (searchColor (a .narrow .now) (a .colors .now) (a .p .nodata)) 16 (found .result) (a .v)
+    (search needs) (search needs) (found .ensures))
     ∙ masked-map _ _ _ _
 
 pub words-by-search-spec : {M : Type 1} → statement M

@@ -32,7 +32,14 @@ in-key-range-requires-2 : tie.Need-in-key-range-requires-2
 in-key-range-requires-2 c κs = search needs
 
 returns-2 : tie.Need-returns-2
-returns-2 c = let a = c .before .before .before .before .before .args in ap₂ (λ (x y : Bool). x && y) (c .before .before .in-key-range .ensures ∙ ap inKeyRange (toZ-ofZ w64 _ (record { sfits = c .before .before .before .in-key-range-arg .given }))) (c .in-key-range2 .ensures ∙ ap inKeyRange (toZ-ofZ w64 _ (record { sfits = c .before .in-key-range-arg2 .given }))) ∙ ends-of (a .keys .now) (a .count) (c .before .before .before .before .if1 .left)
+returns-2 c =
+    let s4 = c .before .before .before .before in
+    let s5 = s4 .before in
+    let a = s5 .args in
+    ap₂ (λ (x y : Bool). x && y)
+    (c .before .before .in-key-range .ensures ∙ ap inKeyRange (toZ-ofZ w64 _ (record { sfits = c .before .before .before .in-key-range-arg .given })))
+    (c .in-key-range2 .ensures ∙ ap inKeyRange (toZ-ofZ w64 _ (record { sfits = c .before .in-key-range-arg2 .given }))) ∙ ends-of (a .keys .now) (a .count)
+    (c .before .before .before .before .if1 .left)
 
 pub ends-in-key-range-spec : {M : Type 1} → statement M
 ends-in-key-range-spec =

@@ -22,31 +22,42 @@ use Rattle.catgegoric.proofs.CategoricNumeric.for_value_range.Statement
 use Rattle.catgegoric.proofs.CategoricNumeric.for_value_range.Tie as tie
 
 -- what the refusal, the count and the keys are
-refusal-is : (c : tie.After-value-range-refusal) → c .value-range-refusal .result ≡ valueRangeRefusal (c .before .before .args .start) (c .before .before .args .end) (length (c .before .before .args .colors .now)) Done
+refusal-is : (c : tie.After-value-range-refusal) → c .value-range-refusal .result ≡ valueRangeRefusal (c .before .before .args .start)
+    (c .before .before .args .end) (length (c .before .before .args .colors .now)) Done
 refusal-is c =
     let s = c .before .before in
     c .value-range-refusal .ensures
     ∙ back₂ (λ a b. valueRangeRefusal a b (length (s .args .colors .now)) Done) (s .args .start) (s .args .end) (s .fits .start .sfits) (s .fits .end .sfits)
 
-clear : (c : tie.After-enum-told2) → valueRangeRefusal (c .before .before .before .before .args .start) (c .before .before .before .before .args .end) (length (c .before .before .before .before .args .colors .now)) Done ≡ Done
+clear : (c : tie.After-enum-told2) → valueRangeRefusal (c .before .before .before .before .args .start) (c .before .before .before .before .args .end)
+    (length (c .before .before .before .before .args .colors .now)) Done ≡ Done
 clear c = sym (refusal-is (c .before .before)) ∙ c .enum-told2 .given .1
 
 wide : (c : tie.After-enum-told2) → wideRefusal (c .before .before .before .before .args .start) (c .before .before .before .before .args .end) Done ≡ Done
 wide c = let s = c .before .before .before .before in range-wide (s .args .start) (s .args .end) (length (s .args .colors .now)) (clear c)
 
-count-is : (c : tie.After-key-count) → c .key-count .result ≡ whole (rangeCount (c .before .before .before .before .before .args .start) (c .before .before .before .before .before .args .end))
+count-is : (c : tie.After-key-count) → c .key-count .result
+    ≡ whole (rangeCount (c .before .before .before .before .before .args .start) (c .before .before .before .before .before .args .end))
 count-is c =
-    let s = c .before .before .before .before .before in
+    let s4 = c .before .before .before .before in
+    let s5 = s4 .before in
+    let s = s5 in
     c .key-count .ensures ∙ back₂ (λ a b. whole (rangeCount a b)) (s .args .start) (s .args .end) (s .fits .start .sfits) (s .fits .end .sfits)
 
 count-few : (c : tie.After-key-count) → c .key-count .result ≤ 256
 count-few c =
-    let s = c .before .before .before .before .before in
+    let s4 = c .before .before .before .before in
+    let s5 = s4 .before in
+    let s = s5 in
     omega (arith, count-is c, wide-few (s .args .start) (s .args .end) (wide (c .before)))
 
-keys-is : (c : tie.After-range-keys) → c .range-keys .result ≡ padded (pos 0) 256 (rangeKeys (c .before .before .before .before .before .before .args .start) (c .before .before .before .before .before .before .args .end))
+keys-is : (c : tie.After-range-keys) → c .range-keys .result
+    ≡ padded (pos 0) 256 (rangeKeys (c .before .before .before .before .before .before .args .start)
+    (c .before .before .before .before .before .before .args .end))
 keys-is c =
-    let s = c .before .before .before .before .before .before in
+    let s4 = c .before .before .before .before in
+    let s6 = s4 .before .before in
+    let s = s6 in
     c .range-keys .ensures
     ∙ ap (padded (pos 0) 256)
     (keys-are (s .args .start) (s .args .end) (toZ w64 (ofZ w64 (s .args .start))) (toZ w64 (ofZ w64 (s .args .end))) (c .before .key-count .result)
@@ -63,8 +74,13 @@ refused-requires c κs = search needs
 
 returns : tie.Need-returns
 returns c =
-    let s = c .before .before .before .before .before in
-    refused (rangeKeys (s .args .start) (s .args .end)) (s .args .colors .now) (stopped (valueRangeRefusal (s .args .start) (s .args .end) (length (s .args .colors .now))) (range-checks (s .args .start) (s .args .end) (length (s .args .colors .now))) (keysRefusal (rangeKeys (s .args .start) (s .args .end))) (refusal-is (c .before .before .before)) (c .before .enum-told .given .1)) (c .before .enum-told .given .1) (c .refused .ensures)
+    let s4 = c .before .before .before .before in
+    let s5 = s4 .before in
+    let s = s5 in
+    refused (rangeKeys (s .args .start) (s .args .end)) (s .args .colors .now)
+    (stopped (valueRangeRefusal (s .args .start) (s .args .end) (length (s .args .colors .now)))
+    (range-checks (s .args .start) (s .args .end) (length (s .args .colors .now))) (keysRefusal (rangeKeys (s .args .start) (s .args .end)))
+    (refusal-is (c .before .before .before)) (c .before .enum-told .given .1)) (c .before .enum-told .given .1) (c .refused .ensures)
 
 enum-told-2 : tie.Need-enum-told-2
 enum-told-2 c = search needs
@@ -76,23 +92,64 @@ key-count-requires c κs =
 
 range-keys-requires : tie.Need-range-keys-requires
 range-keys-requires c κs =
-    let s = c .before .before .before .before .before in
-    (count-few c, λ k h. record { sfits = subst (λ z. mag (z +ℤ pos k) < 2 ^ 63) (sym (back (s .args .start) (s .fits .start .sfits))) (key-fits (s .args .start) (s .args .end) (s .fits .start .sfits) (s .fits .end .sfits) k (omega (arith, count-is c, h))) })
+    let s4 = c .before .before .before .before in
+    let s5 = s4 .before in
+    let s = s5 in (
+      count-few c,
+      λ k h. record {
+        sfits = subst (λ z. mag (z +ℤ pos k) < 2 ^ 63) (sym (back (s .args .start) (s .fits .start .sfits)))
+            (key-fits (s .args .start) (s .args .end) (s .fits .start .sfits) (s .fits .end .sfits) k (omega (arith, count-is c, h)));
+      },
+    )
 
 list-colors-requires : tie.Need-list-colors-requires
 list-colors-requires c κs =
-    let s = c .before .before .before .before .before .before in
-    omega (arith, count-is (c .before), count-few (c .before), range-match (s .args .start) (s .args .end) (length (s .args .colors .now)) (clear (c .before .before)))
+    let s4 = c .before .before .before .before in
+    let s6 = s4 .before .before in
+    let s = s6 in
+    omega (
+      arith,
+      count-is (c .before),
+      count-few (c .before),
+      range-match (s .args .start) (s .args .end) (length (s .args .colors .now))
+          (clear (c .before .before)),
+    )
 
 create-requires : tie.Need-create-requires
 create-requires c κs =
-    let s = c .before .before .before .before .before .before .before .before .before in
-    (count-few (c .before .before .before .before), ap length (keys-is (c .before .before .before)) ∙ length-padded (pos 0) 256 (rangeKeys (s .args .start) (s .args .end)) (omega (arith, length-range (s .args .start) (s .args .end), count-is (c .before .before .before .before), count-few (c .before .before .before .before))), ap length (c .before .before .list-colors .ensures) ∙ length-padded 0 256 (s .args .colors .now) (omega (arith, count-is (c .before .before .before .before), count-few (c .before .before .before .before), range-match (s .args .start) (s .args .end) (length (s .args .colors .now)) (clear (c .before .before .before .before .before)))))
+    let s4 = c .before .before .before .before in
+    let s5 = s4 .before in
+    let s9 = s5 .before .before .before .before in
+    let s = s9 in (
+      count-few (c .before .before .before .before),
+      ap length (keys-is (c .before .before .before))
+          ∙ length-padded (pos 0) 256 (rangeKeys (s .args .start) (s .args .end))
+          (omega (arith, length-range (s .args .start) (s .args .end), count-is s4, count-few s4)),
+      ap length (c .before .before .list-colors .ensures) ∙ length-padded 0 256 (s .args .colors .now)
+          (omega (
+            arith,
+            count-is (c .before .before .before .before),
+            count-few (c .before .before .before .before),
+            range-match (s .args .start) (s .args .end)
+                (length (s .args .colors .now)) (clear (s5)),
+          )),
+    )
 
 returns-2 : tie.Need-returns-2
 returns-2 c =
-    let s = c .before .before .before .before .before .before .before .before .before .before in
-    built (valueRangeRefusal (s .args .start) (s .args .end) (length (s .args .colors .now))) (range-checks (s .args .start) (s .args .end) (length (s .args .colors .now))) (c .before .before .before .before .before .key-count .result) (rangeKeys (s .args .start) (s .args .end)) (s .args .colors .now) (c .before .before .before .before .range-keys .result) (c .before .before .before .list-colors .result) (clear (c .before .before .before .before .before .before)) (counted-list (pos 0) 256 (c .before .before .before .before .before .key-count .result) (rangeKeys (s .args .start) (s .args .end)) (count-is (c .before .before .before .before .before) ∙ sym (length-range (s .args .start) (s .args .end))) (keys-is (c .before .before .before .before))) (counted-list 0 256 (c .before .before .before .before .before .key-count .result) (s .args .colors .now) (count-is (c .before .before .before .before .before) ∙ range-match (s .args .start) (s .args .end) (length (s .args .colors .now)) (clear (c .before .before .before .before .before .before))) (c .before .before .before .list-colors .ensures)) (c .create .ensures)
+    let s4 = c .before .before .before .before in
+    let s5 = s4 .before in
+    let s6 = s5 .before in
+    let s10 = s6 .before .before .before .before in
+    let s = s10 in
+    built (valueRangeRefusal (s .args .start) (s .args .end) (length (s .args .colors .now)))
+    (range-checks (s .args .start) (s .args .end) (length (s .args .colors .now))) (s5 .key-count .result) (rangeKeys (s .args .start) (s .args .end))
+    (s .args .colors .now) (c .before .before .before .before .range-keys .result) (c .before .before .before .list-colors .result) (clear (s6))
+    (counted-list (pos 0) 256 (s5 .key-count .result) (rangeKeys (s .args .start) (s .args .end))
+    (count-is (s5) ∙ sym (length-range (s .args .start) (s .args .end))) (keys-is (c .before .before .before .before)))
+    (counted-list 0 256 (s5 .key-count .result) (s .args .colors .now)
+    (count-is (s5) ∙ range-match (s .args .start) (s .args .end) (length (s .args .colors .now)) (clear (s6)))
+    (c .before .before .before .list-colors .ensures)) (c .create .ensures)
 
 pub for-value-range-spec : {M : Type 1} → statement M
 for-value-range-spec =

@@ -22,10 +22,13 @@ refused-requires c κs = search needs
 
 returns : tie.Need-returns
 returns c =
-    let s = c .before .before .before .before .before in
+    let s4 = c .before .before .before .before in
+    let s5 = s4 .before in
+    let s = s5 in
     let v = s .args .values .now in
     let w = s .args .colors .now in
-    refused v w (stopped (valuesRefusal (length v) (length w)) (values-checks (length v) (length w)) (keysRefusal v) (c .before .before .before .values-refusal .ensures) (c .before .enum-told .given .1)) (c .before .enum-told .given .1) (c .refused .ensures)
+    refused v w (stopped (valuesRefusal (length v) (length w)) (values-checks (length v) (length w)) (keysRefusal v)
+    (c .before .before .before .values-refusal .ensures) (c .before .enum-told .given .1)) (c .before .enum-told .given .1) (c .refused .ensures)
 
 enum-told-2 : tie.Need-enum-told-2
 enum-told-2 c = search needs
@@ -37,26 +40,46 @@ list-keys-requires c κs =
 
 list-colors-requires : tie.Need-list-colors-requires
 list-colors-requires c κs =
-    let s = c .before .before .before .before .before in
+    let s4 = c .before .before .before .before in
+    let s5 = s4 .before in
+    let s = s5 in
     let e = sym (c .before .before .before .values-refusal .ensures) ∙ c .before .enum-told2 .given .1 in
-    omega (arith, values-few (length (s .args .values .now)) (length (s .args .colors .now)) e, values-match (length (s .args .values .now)) (length (s .args .colors .now)) e)
+    omega (
+      arith,
+      values-few (length (s .args .values .now)) (length (s .args .colors .now)) e,
+      values-match (length (s .args .values .now))
+          (length (s .args .colors .now)) e,
+    )
 
 create-requires : tie.Need-create-requires
 create-requires c κs =
-    let s = c .before .before .before .before .before .before .before .before in
+    let s4 = c .before .before .before .before in
+    let s6 = s4 .before .before in
+    let s8 = s6 .before .before in
+    let s = s8 in
     let v = s .args .values .now in
     let w = s .args .colors .now in
-    let e = sym (c .before .before .before .before .before .before .values-refusal .ensures) ∙ c .before .before .before .before .enum-told2 .given .1 in
-    let few = values-few (length v) (length w) e in
-    (few, ap length (c .before .before .before .list-keys .ensures) ∙ length-padded (pos 0) 256 v few, ap length (c .before .before .list-colors .ensures) ∙ length-padded 0 256 w (omega (arith, few, values-match (length v) (length w) e)))
+    let e = sym (s6 .values-refusal .ensures) ∙ c .before .before .before .before .enum-told2 .given .1 in
+    let few = values-few (length v) (length w) e in (
+      few,
+      ap length (c .before .before .before .list-keys .ensures) ∙ length-padded (pos 0) 256 v few,
+      ap length (c .before .before .list-colors .ensures)
+          ∙ length-padded 0 256 w (omega (arith, few, values-match (length v) (length w) e)),
+    )
 
 returns-2 : tie.Need-returns-2
 returns-2 c =
-    let s = c .before .before .before .before .before .before .before .before .before in
+    let s4 = c .before .before .before .before in
+    let s5 = s4 .before in
+    let s7 = s5 .before .before in
+    let s9 = s7 .before .before in
+    let s = s9 in
     let v = s .args .values .now in
     let w = s .args .colors .now in
-    let e = sym (c .before .before .before .before .before .before .before .values-refusal .ensures) ∙ c .before .before .before .before .before .enum-told2 .given .1 in
-    built (valuesRefusal (length v) (length w)) (values-checks (length v) (length w)) (length v) v w (c .before .before .before .before .list-keys .result) (c .before .before .before .list-colors .result) e (counted-list (pos 0) 256 (length v) v refl (c .before .before .before .before .list-keys .ensures)) (counted-list 0 256 (length v) w (values-match (length v) (length w) e) (c .before .before .before .list-colors .ensures)) (c .create .ensures)
+    let e = sym (s7 .values-refusal .ensures) ∙ s5 .enum-told2 .given .1 in
+    built (valuesRefusal (length v) (length w)) (values-checks (length v) (length w)) (length v) v w (c .before .before .before .before .list-keys .result)
+    (c .before .before .before .list-colors .result) e (counted-list (pos 0) 256 (length v) v refl (c .before .before .before .before .list-keys .ensures))
+    (counted-list 0 256 (length v) w (values-match (length v) (length w) e) (c .before .before .before .list-colors .ensures)) (c .create .ensures)
 
 pub for-values-spec : {M : Type 1} → statement M
 for-values-spec =

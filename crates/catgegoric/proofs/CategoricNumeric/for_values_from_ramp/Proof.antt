@@ -25,7 +25,9 @@ returns : tie.Need-returns
 returns c =
     let s = c .before .before .before .before in
     let v = s .args .values .now in
-    refused v (rampColors (length v) (s .args .cmap .now)) (stopped (manyRefusal (length v)) (many-checks (length v)) (keysRefusal v) (c .before .before .before .many-refusal .ensures) (c .before .enum-told .given .1)) (c .before .enum-told .given .1) (c .refused .ensures)
+    refused v (rampColors (length v) (s .args .cmap .now))
+    (stopped (manyRefusal (length v)) (many-checks (length v)) (keysRefusal v) (c .before .before .before .many-refusal .ensures)
+    (c .before .enum-told .given .1)) (c .before .enum-told .given .1) (c .refused .ensures)
 
 enum-told-2 : tie.Need-enum-told-2
 enum-told-2 c = search needs
@@ -36,21 +38,36 @@ list-keys-requires c κs =
 
 ramp-colors-requires : tie.Need-ramp-colors-requires
 ramp-colors-requires c κs =
-    few (length (c .before .before .before .before .args .values .now)) (sym (c .before .before .before .many-refusal .ensures) ∙ c .before .enum-told2 .given .1)
+    few (length (c .before .before .before .before .args .values .now))
+    (sym (c .before .before .before .many-refusal .ensures) ∙ c .before .enum-told2 .given .1)
 
 create-requires : tie.Need-create-requires
 create-requires c κs =
-    let s = c .before .before .before .before .before .before .before in
+    let s4 = c .before .before .before .before in
+    let s6 = s4 .before .before in
+    let s7 = s6 .before in
+    let s = s7 in
     let v = s .args .values .now in
-    let h = few (length v) (sym (c .before .before .before .before .before .before .many-refusal .ensures) ∙ c .before .before .before .before .enum-told2 .given .1) in
-    (h, ap length (c .before .before .before .list-keys .ensures) ∙ length-padded (pos 0) 256 v h, ap length (c .before .before .ramp-colors .ensures) ∙ length-padded 0 256 (rampColors (length v) (s .args .cmap .now)) (omega (arith, h, length-ramp (length v) (s .args .cmap .now))))
+    let h = few (length v) (sym (s6 .many-refusal .ensures) ∙ c .before .before .before .before .enum-told2 .given .1) in (
+      h,
+      ap length (c .before .before .before .list-keys .ensures) ∙ length-padded (pos 0) 256 v h,
+      ap length (c .before .before .ramp-colors .ensures)
+          ∙ length-padded 0 256 (rampColors (length v) (s .args .cmap .now)) (omega (arith, h, length-ramp (length v) (s .args .cmap .now))),
+    )
 
 returns-2 : tie.Need-returns-2
 returns-2 c =
-    let s = c .before .before .before .before .before .before .before .before in
+    let s4 = c .before .before .before .before in
+    let s5 = s4 .before in
+    let s7 = s5 .before .before in
+    let s8 = s7 .before in
+    let s = s8 in
     let v = s .args .values .now in
     let w = rampColors (length v) (s .args .cmap .now) in
-    built (manyRefusal (length v)) (many-checks (length v)) (length v) v w (c .before .before .before .before .list-keys .result) (c .before .before .before .ramp-colors .result) (sym (c .before .before .before .before .before .before .before .many-refusal .ensures) ∙ c .before .before .before .before .before .enum-told2 .given .1) (counted-list (pos 0) 256 (length v) v refl (c .before .before .before .before .list-keys .ensures)) (counted-list 0 256 (length v) w (sym (length-ramp (length v) (s .args .cmap .now))) (c .before .before .before .ramp-colors .ensures)) (c .create .ensures)
+    built (manyRefusal (length v)) (many-checks (length v)) (length v) v w (c .before .before .before .before .list-keys .result)
+    (c .before .before .before .ramp-colors .result) (sym (s7 .many-refusal .ensures) ∙ s5 .enum-told2 .given .1)
+    (counted-list (pos 0) 256 (length v) v refl (c .before .before .before .before .list-keys .ensures))
+    (counted-list 0 256 (length v) w (sym (length-ramp (length v) (s .args .cmap .now))) (c .before .before .before .ramp-colors .ensures)) (c .create .ensures)
 
 pub for-values-from-ramp-spec : {M : Type 1} → statement M
 for-values-from-ramp-spec =

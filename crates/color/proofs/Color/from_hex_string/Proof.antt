@@ -37,8 +37,11 @@ of-pairs-requires c κs = search needs
 
 returns-3 : tie.Need-returns-3
 returns-3 c =
-    let p = c .before .before .before .before .before
-    in of-read _ (formed _ (p .before .hex-form .ensures) (p .if2 .left)) (c .of-pairs .ensures) (c .before .before .before .before .pair-at .ensures) (c .before .before .before .pair-at2 .ensures) (c .before .before .pair-at3 .ensures) (sym (short-alpha _ (c .before .if3 .taken)))
+    let s4 = c .before .before .before .before in
+    let s5 = s4 .before in
+    let p = s5
+    in of-read _ (formed _ (p .before .hex-form .ensures) (p .if2 .left)) (c .of-pairs .ensures) (c .before .before .before .before .pair-at .ensures)
+    (c .before .before .before .pair-at2 .ensures) (c .before .before .pair-at3 .ensures) (sym (short-alpha _ (c .before .if3 .taken)))
 
 pair-at-requires-4 : tie.Need-pair-at-requires-4
 pair-at-requires-4 c κs =
@@ -50,8 +53,13 @@ of-pairs-requires-2 c κs = search needs
 
 returns-4 : tie.Need-returns-4
 returns-4 c =
-    let p = c .before .before .before .before .before .before
-    in of-read _ (formed _ (p .before .hex-form .ensures) (p .if2 .left)) (c .of-pairs2 .ensures) (c .before .before .before .before .before .pair-at .ensures) (c .before .before .before .before .pair-at2 .ensures) (c .before .before .before .pair-at3 .ensures) (c .before .pair-at4 .ensures ∙ sym (long-alpha _ (c .before .before .if3 .left)))
+    let s4 = c .before .before .before .before in
+    let s5 = s4 .before in
+    let s6 = s5 .before in
+    let p = s6
+    in of-read _ (formed _ (p .before .hex-form .ensures) (p .if2 .left)) (c .of-pairs2 .ensures) (s5 .pair-at .ensures)
+    (c .before .before .before .before .pair-at2 .ensures) (c .before .before .before .pair-at3 .ensures)
+    (c .before .pair-at4 .ensures ∙ sym (long-alpha _ (c .before .before .if3 .left)))
 
 pub from-hex-string-spec : {M : Type 1} → statement M
 from-hex-string-spec =

@@ -50,7 +50,9 @@ returns-3 c =
 
 mul-t8 : tie.Need-mul-t8
 mul-t8 c =
-    let h = c .before .before .before .before .before
+    let s4 = c .before .before .before .before in
+    let s5 = s4 .before in
+    let h = s5
     in omega (arith, below-16 _ (sym (h .h .given .1) ∙ h .before .before .hex-digit2 .ensures))
 
 add-t9 : tie.Need-add-t9

@@ -12,14 +12,18 @@ returns c = let a = c .before .before .before .before .args in sym (ap (λ k. st
 returns-2 : tie.Need-returns-2
 unfolding storedRefusal
 returns-2 c =
-    let s5 = c .before .before .before .before .before in
+    let st4 = c .before .before .before .before in
+    let st5 = st4 .before in
+    let s5 = st5 in
     let a = s5 .args in
     c .banded-refusal .ensures ∙ sym (ap (λ k. storedIn k (a .self)) (c .before .enum-told2 .given .1))
 
 returns-3 : tie.Need-returns-3
 unfolding storedRefusal
 returns-3 c =
-    let s5 = c .before .before .before .before .before in
+    let st4 = c .before .before .before .before in
+    let st5 = st4 .before in
+    let s5 = st5 in
     let a = s5 .args in
     c .categoric-refusal .ensures ∙ sym (ap (λ k. storedIn k (a .self)) (c .before .enum-told3 .given .1))
 

@@ -13,7 +13,10 @@ default-requires-2 : tie.Need-default-requires-2
 default-requires-2 c κs = search needs
 
 returns : tie.Need-returns
-returns c = ap₂ {C = Legend} (λ x y. record { kind = kind.Banded; linear = x; banded = c .before .before .args .banded; categoric = y; «mapping_config» = c .before .before .args .config }) (c .before .default .ensures) (c .default2 .ensures)
+returns c =
+    ap₂ {C = Legend} (λ x y. record
+    { kind = kind.Banded; linear = x; banded = c .before .before .args .banded; categoric = y; «mapping_config» = c .before .before .args .config })
+    (c .before .default .ensures) (c .default2 .ensures)
 
 pub with-banded-spec : {M : Type 1} → statement M
 with-banded-spec = tie.close (tie.spec default-requires default-requires-2 returns)

@@ -17,15 +17,18 @@ enum-told-3 c = search needs
 
 returns : tie.Need-returns
 unfolding simdSupported
-returns c cmap keys colors lookup = let h = c .before .before .args .self in sym (ap (λ k. simdIn k (borrowedLegend h cmap keys colors lookup)) (c .enum-told .given .1))
+returns c cmap keys colors lookup =
+    let h = c .before .before .args .self in sym (ap (λ k. simdIn k (borrowedLegend h cmap keys colors lookup)) (c .enum-told .given .1))
 
 returns-2 : tie.Need-returns-2
 unfolding simdSupported
-returns-2 c cmap keys colors lookup = let h = c .before .before .args .self in sym (ap (λ k. simdIn k (borrowedLegend h cmap keys colors lookup)) (c .enum-told2 .given .1))
+returns-2 c cmap keys colors lookup =
+    let h = c .before .before .args .self in sym (ap (λ k. simdIn k (borrowedLegend h cmap keys colors lookup)) (c .enum-told2 .given .1))
 
 returns-3 : tie.Need-returns-3
 unfolding simdSupported
-returns-3 c cmap keys colors lookup = let h = c .before .before .before .args .self in sym (ap (λ k. simdIn k (borrowedLegend h cmap keys colors lookup)) (c .before .enum-told3 .given .1))
+returns-3 c cmap keys colors lookup =
+    let h = c .before .before .before .args .self in sym (ap (λ k. simdIn k (borrowedLegend h cmap keys colors lookup)) (c .before .enum-told3 .given .1))
 
 pub simd-supported-spec : {M : Type 1} → statement M
 simd-supported-spec =

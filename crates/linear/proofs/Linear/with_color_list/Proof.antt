@@ -16,7 +16,9 @@ default-requires c κs = search needs
 
 returns : tie.Need-returns
 returns c =
-    let a = c .before .before .before .before .before .args in
+    let s4 = c .before .before .before .before in
+    let s5 = s4 .before in
+    let a = s5 .args in
     let r = c .before .enum-told .given .1 in
     refused _ _ _ (list-refused (a .start) (a .end) (a .colors .now) _ (c .before .before .before .create .ensures) r) r (c .default .ensures)
 
@@ -28,8 +30,10 @@ new-requires c κs = search needs
 
 returns-2 : tie.Need-returns-2
 returns-2 c =
+    let s4 = c .before .before .before .before in
+    let s6 = s4 .before .before in
     c .new .ensures
-    ∙ list-done _ _ (c .before .before .before .before .before .before .args .colors .now) _ (c .before .before .before .before .create .ensures) (c .before .before .enum-told2 .given .1)
+    ∙ list-done _ _ (s6 .args .colors .now) _ (c .before .before .before .before .create .ensures) (c .before .before .enum-told2 .given .1)
 
 pub with-color-list-spec : {M : Type 1} → statement M
 with-color-list-spec =

@@ -28,7 +28,9 @@ mul-result-2 c = record { fits = omega (arith, flag-most (c .before .before .bef
 add-result-2 : tie.Need-add-result-2
 add-result-2 c =
     let s3 = c .before .before .before in
-    record { fits = omega (arith, flag-most (s3 .args .config .«zero_is_nodata»), c .before .before .given-word .ensures .1, c .before .given-word2 .ensures .1) }
+    record {
+      fits = omega (arith, flag-most (s3 .args .config .«zero_is_nodata»), c .before .before .given-word .ensures .1, c .before .given-word2 .ensures .1);
+    }
 
 returns : tie.Need-returns
 unfolding flagsWord

@@ -71,7 +71,17 @@ returns c =
     let s6 = s5 .before in
     let s7 = s6 .before in
     let s8 = s7 .before in
-    cc (s8 .kind-word .ensures, s7 .flags-word .ensures, s6 .unwrap-or .ensures, s5 .unwrap-or2 .ensures, s4 .bits .ensures, s3 .bits2 .ensures, c .before .before .count-word .ensures, c .before .count-word2 .ensures, c .count-word3 .ensures)
+    cc (
+      s8 .kind-word .ensures,
+      s7 .flags-word .ensures,
+      s6 .unwrap-or .ensures,
+      s5 .unwrap-or2 .ensures,
+      s4 .bits .ensures,
+      s3 .bits2 .ensures,
+      c .before .before .count-word .ensures,
+      c .before .count-word2 .ensures,
+      c .count-word3 .ensures,
+    )
 
 pub head-words-spec : {M : Type 1} → statement M
 head-words-spec =

@@ -16,7 +16,9 @@ returns c =
 
 array-share-prefix-list : tie.Need-array-share-prefix-list
 array-share-prefix-list c =
-    let s5 = c .before .before .before .before .before in
+    let st4 = c .before .before .before .before in
+    let st5 = st4 .before in
+    let s5 = st5 in
     prefix-fits (getD (s5 .args .row .now) 2 0) (c .before .before .words-at .result) (c .at-most .ensures) (search needs)
 
 slice-aggregate-create : tie.Need-slice-aggregate-create

@@ -15,7 +15,10 @@ slice-aggregate-put-2 : tie.Need-slice-aggregate-put-2
 slice-aggregate-put-2 c = search needs
 
 put-requires-2 : tie.Need-put-requires-2
-put-requires-2 c κs = omega (arith, slice-aggregate-put-2 c, c .before .before .before .before .before .pre .1)
+put-requires-2 c κs =
+    let s4 = c .before .before .before .before in
+    let s5 = s4 .before in
+    omega (arith, slice-aggregate-put-2 c, s5 .pre .1)
 
 returns : tie.Need-returns
 returns c = cc (c .put2 .ensures, c .before .before .put .ensures)

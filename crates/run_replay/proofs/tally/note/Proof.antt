@@ -54,8 +54,11 @@ returns-2 : tie.Need-returns-2
 unfolding tallied
 returns-2 c =
     let s3 = c .before .before .before in
-    let a = s3 .args in
-    (ap (set (a .rows .now) (a .kind)) (c .before .wrapping-add-u64 .ensures), sym (ap (λ (t : Bool). cond t (a .differ .now) (tallied (a .kind) (a .differ .now))) (not-false (a .same) (c .if1 .left))))
+    let a = s3 .args in (
+      ap (set (a .rows .now) (a .kind)) (c .before .wrapping-add-u64 .ensures),
+      sym
+          (ap (λ (t : Bool). cond t (a .differ .now) (tallied (a .kind) (a .differ .now))) (not-false (a .same) (c .if1 .left))),
+    )
 
 pub note-spec : {M : Type 1} → statement M
 note-spec =

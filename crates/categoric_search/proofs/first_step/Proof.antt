@@ -1,10 +1,10 @@
--- `leading_place` meets its contract. Assumes nothing.
+-- `first_step` meets its contract. Assumes nothing.
 use borrow.Author.Needs.{needs}
 use mir.Syntax.{w32}
 use mir.Val.{SFits}
 use Rattle.categoric_search.proofs.Steps.{reaches-is, leading-is}
-use Rattle.categoric_search.proofs.leading_place.Statement.{statement}
-use Rattle.categoric_search.proofs.leading_place.Tie as tie
+use Rattle.categoric_search.proofs.first_step.Statement.{statement}
+use Rattle.categoric_search.proofs.first_step.Tie as tie
 
 element-copy-out-reached : tie.Need-element-copy-out-reached
 element-copy-out-reached c = search needs
@@ -89,8 +89,8 @@ returns c =
     (reaches-is (a .narrow .now) (a .key) 192 f (record { sfits = s6 .before .reached-arg6 .given }) (s6 .reached6 .ensures .0))
     (reaches-is (a .narrow .now) (a .key) 224 f (record { sfits = s7 .before .reached-arg7 .given }) (s7 .reached7 .ensures .0))
 
-pub leading-place-spec : {M : Type 1} → statement M
-leading-place-spec =
+pub first-step-spec : {M : Type 1} → statement M
+first-step-spec =
     tie.close
     (tie.spec
     element-copy-out-reached
