@@ -43,19 +43,24 @@ sub-loop : tie.Need-sub-loop Inv-loop μ-loop
 sub-loop c = search needs
 
 chunk-searched-requires : tie.Need-chunk-searched-requires Inv-loop μ-loop
-chunk-searched-requires c κs =
-    let s4 = c .before .before .before .before in
-    let s5 = s4 .before in
-    let b = s5 in
-    let s = b .before .before .before in
-    (search needs, both-asked (b .ascending-disjoint .ensures _) (c .before .if1 .taken), s .pre .1, omega arith, omega arith)
+chunk-searched-requires c κs = (
+  search needs,
+  let b = c .before .before .before .before in
+      both-asked (b .before .ascending-disjoint .ensures _) (c .before .if1 .taken),
+  let b = c .before .before .before .before in
+      b .before .before .before .before .pre .1,
+  omega arith,
+  omega arith,
+)
 
 chunk-requires : tie.Need-chunk-requires Inv-loop μ-loop
-chunk-requires c κs =
-    let st4 = c .before .before .before .before in
-    let st8 = st4 .before .before .before .before in
-    let s8 = st8 in
-    (search needs, s8 .pre .1, omega arith, omega arith)
+chunk-requires c κs = (
+  search needs,
+  let b = c .before .before .before .before in
+      b .before .before .before .before .pre .1,
+  omega arith,
+  omega arith,
+)
 
 loop-less : tie.Need-loop-less Inv-loop μ-loop
 loop-less c =

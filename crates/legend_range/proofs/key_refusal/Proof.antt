@@ -17,10 +17,12 @@ enum-told-3 : tie.Need-enum-told-3
 enum-told-3 c = search needs
 
 keys-refusal-requires : tie.Need-keys-refusal-requires
-keys-refusal-requires c κs =
-    let s4 = c .before .before .before .before in
-    let s5 = s4 .before in
-    (categories-stored (s5 .args .legend) (s5 .pre) (c .before .before .enum-told3 .given .1) .0, search needs)
+keys-refusal-requires c κs = (
+  let b = c .before .before in
+      let s = b .before .before .before in
+      categories-stored (s .args .legend) (s .pre) (b .enum-told3 .given .1) .0,
+  search needs,
+)
 
 returns : tie.Need-returns
 unfolding outsideFrom
@@ -32,9 +34,8 @@ returns-2 c = sym (ap (λ k. keysRefusal (keysIn k (c .before .before .before .a
 
 returns-3 : tie.Need-returns-3
 returns-3 c =
-    let s4 = c .before .before .before .before in
-    let s6 = s4 .before .before in
-    c .keys-refusal .ensures ∙ sym (ap (λ k. keysRefusal (keysIn k (s6 .args .legend))) (c .before .before .before .enum-told3 .given .1))
+    let b = c .before .before .before in
+    c .keys-refusal .ensures ∙ sym (ap (λ k. keysRefusal (keysIn k (b .before .before .before .args .legend))) (b .enum-told3 .given .1))
 
 pub key-refusal-spec : {M : Type 1} → statement M
 key-refusal-spec =

@@ -15,41 +15,39 @@ enum-told-2 c = search needs
 
 bands-range-requires : tie.Need-bands-range-requires
 bands-range-requires c κs =
-    let s4 = c .before .before .before .before in
-    let s6 = s4 .before .before in
-    bands-stored (s6 .args .legend) (range-stored (s6 .args .legend) (s6 .pre)) (c .enum-told2 .given .1)
+    let b = c .before .before .before in
+    let s = b .before .before .before in
+    bands-stored (s .args .legend) (range-stored (s .args .legend) (s .pre)) (c .enum-told2 .given .1)
 
 enum-told-3 : tie.Need-enum-told-3
 enum-told-3 c = search needs
 
 keys-range-requires : tie.Need-keys-range-requires
-keys-range-requires c κs =
-    let s4 = c .before .before .before .before in
-    let s8 = s4 .before .before .before .before in (
-      categories-stored (s8 .args .legend) (range-stored (s8 .args .legend) (s8 .pre)) (c .before .before .enum-told3 .given .1) .0,
-      search needs,
-      range-keys
-          (s8 .args .legend) (s8 .pre) (c .before .before .enum-told3 .given .1),
-    )
+keys-range-requires c κs = (
+  let b = c .before .before .before .before in
+      let s = b .before .before .before .before in
+      categories-stored (s .args .legend) (range-stored (s .args .legend) (s .pre)) (c .before .before .enum-told3 .given .1) .0,
+  search needs,
+  let b = c .before .before .before .before in
+      let s = b .before .before .before .before in
+      range-keys (s .args .legend) (s .pre) (c .before .before .enum-told3 .given .1),
+)
 
 returns : tie.Need-returns
 returns c =
-    let s4 = c .before .before .before .before in
-    let s6 = s4 .before .before in
-    sym (ap (λ k. rangeIn k (s6 .args .legend)) (c .enum-told .given .1))
+    let b = c .before .before .before in
+    sym (ap (λ k. rangeIn k (b .before .before .before .args .legend)) (c .enum-told .given .1))
 
 returns-2 : tie.Need-returns-2
 returns-2 c =
-    let s4 = c .before .before .before .before in
-    let s7 = s4 .before .before .before in
-    c .bands-range .ensures ∙ sym (ap (λ k. rangeIn k (s7 .args .legend)) (c .before .enum-told2 .given .1))
+    let b = c .before .before .before .before in
+    c .bands-range .ensures ∙ sym (ap (λ k. rangeIn k (b .before .before .before .args .legend)) (c .before .enum-told2 .given .1))
 
 returns-3 : tie.Need-returns-3
 returns-3 c =
-    let s4 = c .before .before .before .before in
-    let s8 = s4 .before .before .before .before in
-    let s9 = s8 .before in
-    c .keys-range .ensures ∙ sym (ap (λ k. rangeIn k (s9 .args .legend)) (c .before .before .before .enum-told3 .given .1))
+    let b = c .before .before .before in
+    let s = b .before .before .before in
+    c .keys-range .ensures ∙ sym (ap (λ k. rangeIn k (s .before .before .before .args .legend)) (b .enum-told3 .given .1))
 
 pub range-of-spec : {M : Type 1} → statement M
 range-of-spec =

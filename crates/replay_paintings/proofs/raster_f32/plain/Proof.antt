@@ -1,6 +1,5 @@
 -- `raster_f32::plain` meets its contract. Assumes nothing.
-use mathlib.Core.Path.{refl}
-use mathlib.Core.Path.{ap}
+use mathlib.Core.Path.{refl, ap}
 use lib.ListN.{take}
 use Rattle.replay_paintings.specs.Samples.{sampleOf}
 use Rattle.replay_paintings.proofs.Painting.{taken, plain-is}
