@@ -674,7 +674,9 @@ macro_rules! sample_calls {
             let (pixels, room) = (src.len(), out.len());
             // SAFETY: each pointer and the length beside it are one slice's, and the references are to the arrays that
             // the call reads; what is written through is borrowed alone, and the call keeps none.
-            unsafe { borrowed!($view_paint(legend, src.as_ptr(), pixels, nodata_given, nodata, out.as_mut_ptr(), room)) }
+            unsafe {
+                borrowed!($view_paint(legend, src.as_ptr(), pixels, nodata_given, nodata, out.as_mut_ptr(), room))
+            }
         }
 
         /// Paints a raster of this type in lanes.
@@ -691,7 +693,9 @@ macro_rules! sample_calls {
             let (pixels, room, words) = (src.len(), out.len(), scratch.len());
             let (src, out, scratch) = (src.as_ptr(), out.as_mut_ptr(), scratch.as_mut_ptr());
             // SAFETY: as for plain painting; `out` and `scratch` are borrowed alone, so they do not overlap.
-            unsafe { borrowed!($view_lanes(legend, lanes, src, pixels, nodata_given, nodata, out, room, scratch, words)) }
+            unsafe {
+                borrowed!($view_lanes(legend, lanes, src, pixels, nodata_given, nodata, out, room, scratch, words))
+            }
         }
     };
 }

@@ -119,13 +119,16 @@ pub fn functions(source: &str) -> impl Iterator<Item = (String, Vec<Cited>)> + '
             }
             let Some(name) = function(line) else { continue };
             let mut contract = String::new();
+            let mut ensures = false;
             while let Some(line) = lines.peek() {
                 if line.trim() == "{" || line.ends_with(" {}") || line.ends_with('}') && !line.contains("⌝ }") {
                     break;
                 }
-                if line.trim_start().starts_with("ensures") {
+                ensures |= line.trim_start().starts_with("ensures");
+                if ensures {
                     contract += line;
                 }
+                ensures &= !line.contains("⌝ }");
                 lines.next();
             }
             let words: Vec<&str> = contract.split(|c: char| !c.is_alphanumeric() && c != '_' && c != '-').collect();

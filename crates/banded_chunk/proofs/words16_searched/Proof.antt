@@ -18,8 +18,7 @@ apply-lane-edges-requires c κs =
 returns : tie.Need-returns
 returns c =
     let s4 = c .before .before .before .before in
-    let s5 = s4 .before in
-    let s = s5 in
+    let s = s4 .before in
     lane-words 16 _ (s .args .p) (s .args .v) (search (needs, s .good .1 .1 .1 .1)) (omega arith) (c .masked-simd .ensures)
     (c .before .apply-lane-edges .ensures)
 

@@ -52,8 +52,7 @@ loop-again : tie.Need-loop-again Inv-loop μ-loop
 loop-again c =
     let s4 = c .before .before .before .before in
     let s6 = s4 .before .before in
-    let s7 = s6 .before in
-    let s = s7 in
+    let s = s6 .before in
     let a = s .args in
     let l = s6 .loop in
     let held = c .before .before .before .holds .ensures in

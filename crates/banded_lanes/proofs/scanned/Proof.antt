@@ -27,16 +27,14 @@ band-at-requires c κs = search needs
 enter-requires : tie.Need-enter-requires Inv-loop μ-loop
 enter-requires c κs =
     let st4 = c .before .before .before .before in
-    let st5 = st4 .before in
-    let s5 = st5 in
+    let s5 = st4 .before in
     let l = s5 .loop in
     (omega arith, l .inv .colored, l .inv .insides)
 
 returns : tie.Need-returns Inv-loop μ-loop
 returns c =
     let s4 = c .before .before .before .before in
-    let s5 = s4 .before in
-    let b = s5 in
+    let b = s4 .before in
     let s = b .before .before in
     let a = s .before .before .args in
     let e = c .before .enter in
@@ -47,8 +45,7 @@ returns c =
 loop-again : tie.Need-loop-again Inv-loop μ-loop
 loop-again c =
     let s4 = c .before .before .before .before in
-    let s5 = s4 .before in
-    let b = s5 in
+    let b = s4 .before in
     let s = b .before .before in
     let a = s .before .before .args in
     let e = c .before .enter in

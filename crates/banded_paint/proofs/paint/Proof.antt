@@ -34,8 +34,7 @@ block-requires c κs = (search needs, λ h. sym (c .before .before .before .asce
 loop-again : tie.Need-loop-again Inv-loop μ-loop
 loop-again c =
     let st4 = c .before .before .before .before in
-    let st5 = st4 .before in
-    let s5 = st5 in
+    let s5 = st4 .before in
     chunk-turn (s5 .loop .inv) (omega arith) (omega arith) (λ xs. length-map xs _) (c .before .before .block .ensures)
 
 rest-requires : tie.Need-rest-requires Inv-loop μ-loop
@@ -47,8 +46,7 @@ same-length c = search needs
 returns : tie.Need-returns Inv-loop μ-loop
 returns c =
     let st4 = c .before .before .before .before in
-    let st5 = st4 .before in
-    let s5 = st5 in
+    let s5 = st4 .before in
     c .before .before .rest .ensures ∙ chunks-end (s5 .loop .inv) (omega arith) ∙ plain-in-blocks 16 _ _
 
 pub paint-spec : {M : Type 1} → statement M

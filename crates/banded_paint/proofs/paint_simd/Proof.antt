@@ -65,16 +65,14 @@ chunk-requires c κs = (
 loop-less : tie.Need-loop-less Inv-loop μ-loop
 loop-less c =
     let st4 = c .before .before .before .before in
-    let st7 = st4 .before .before .before in
-    let s7 = st7 in
+    let s7 = st4 .before .before .before in
     omega (arith, lane-sizes (s7 .args .l) (s7 .pre .1) .0)
 
 loop-again : tie.Need-loop-again Inv-loop μ-loop
 loop-again c =
     let l = c .before .before in
     let s4 = l .before .before .before .before in
-    let s5 = s4 .before in
-    let s = s5 in
+    let s = s4 .before in
     chunk-turn (l .loop .inv) (lane-sizes _ (s .pre .1) .0) (omega arith)
     (λ xs. length-masked _ _ xs _ (lane-length _ _ xs))
     (⊎-elim (λ w. w .5 ∙ w .2 .ensures) (λ w. w .5 ∙ w .2 .ensures) (c .if1 .came))
@@ -96,8 +94,7 @@ same-length c = search needs
 returns : tie.Need-returns Inv-loop μ-loop
 returns c =
     let st4 = c .before .before .before .before in
-    let st5 = st4 .before in
-    let s5 = st5 in
+    let s5 = st4 .before in
     c .before .before .rest .ensures ∙ chunks-end (s5 .loop .inv) (omega arith)
 
 pub paint-simd-spec : {M : Type 1} → statement M

@@ -38,8 +38,7 @@ holds-requires c κs = search needs
 returns-2 : tie.Need-returns-2 Inv-loop μ-loop
 returns-2 c =
     let st4 = c .before .before .before .before in
-    let st6 = st4 .before .before in
-    let s6 = st6 in
+    let s6 = st4 .before .before in
     let a = s6 .args in
     let l = c .before .before .before .before .loop in
     sym (first-held (a .starts .now) (a .ends .now) (a .colors .now) (a .count) (l .i) (a .value)
@@ -49,8 +48,7 @@ returns-2 c =
 loop-again : tie.Need-loop-again Inv-loop μ-loop
 loop-again c =
     let st4 = c .before .before .before .before in
-    let st6 = st4 .before .before in
-    let s6 = st6 in
+    let s6 = st4 .before .before in
     let a = s6 .args in
     let l = c .before .before .before .before .loop in (
       omega arith,
@@ -74,8 +72,7 @@ edge-color-requires c κs = search needs
 returns-3 : tie.Need-returns-3 Inv-loop μ-loop
 returns-3 c =
     let st4 = c .before .before .before .before in
-    let st6 = st4 .before .before in
-    let s6 = st6 in
+    let s6 = st4 .before .before in
     let a = s6 .args in
     let l = c .before .before .before .before .loop in
     c .edge-color .ensures

@@ -20,8 +20,7 @@ returns c =
 returns-2 : tie.Need-returns-2
 returns-2 c =
     let st4 = c .before .before .before .before in
-    let st5 = st4 .before in
-    let s5 = st5 in
+    let s5 = st4 .before in
     let a = s5 .args in
     λ k q. c .first-colors .ensures k q ∙ ap (firstColor (fromColumns (a .starts .now) (a .ends .now) (a .colors .now) (a .count)) (getD (a .value) k nan))
     (c .before .edge-colors .ensures k q ∙ ap₂ (λ (x y : LegendBand). edgeColor x y (a .u) (getD (a .value) k nan))

@@ -62,8 +62,7 @@ array-write-result c = search needs
 loop-again : tie.Need-loop-again Inv-loop μ-loop
 loop-again c =
     let st4 = c .before .before .before .before in
-    let st5 = st4 .before in
-    let s5 = st5 in
+    let s5 = st4 .before in
     storing-turn (s5 .loop .inv) (omega arith) (omega arith) (c .pick .ensures)
 
 returns : tie.Need-returns Inv-loop μ-loop

@@ -21,8 +21,7 @@ returns c =
 returns-2 : tie.Need-returns-2
 returns-2 c =
     let s4 = c .before .before .before .before in
-    let s6 = s4 .before .before in
-    let s = s6 in
+    let s = s4 .before .before in
     let a = s .args in
     lanes-agree (c .colors-at .ensures)
     (λ k q.

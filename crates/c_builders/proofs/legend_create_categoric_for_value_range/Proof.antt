@@ -26,8 +26,7 @@ made-to-c-requires c κs = search needs
 returns : tie.Need-returns
 returns c =
     let s4 = c .before .before .before .before in
-    let s5 = s4 .before in
-    let s = s5 in
+    let s = s4 .before in
     with-both madeToC (c .made-to-c .ensures) (c .before .settings-refusal .ensures)
     (c .before .before .create-categoric-for-value-range .ensures
     ∙ (λ j. categoricWithSettings (back₂ (λ a b. forValueRange a b (s .args .colors .now)) (s .args .start) (s .args .end) (s .fits .start .sfits)

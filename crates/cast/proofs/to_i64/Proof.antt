@@ -58,8 +58,7 @@ sub-t9 c = less-fits (c .before .magnitude .result) (c .before .magnitude .ensur
 returns-5 : tie.Need-returns-5
 returns-5 c =
     let s4 = c .before .before .before .before in
-    let s5 = s4 .before in
-    let s = s5 in
+    let s = s4 .before in
     let x = s .args .x in
     let b = toBits binary32 x in
     let u = c .before .magnitude .result in
@@ -71,8 +70,7 @@ returns-5 c =
 returns-6 : tie.Need-returns-6
 returns-6 c =
     let s4 = c .before .before .before .before in
-    let s5 = s4 .before in
-    let s = s5 in
+    let s = s4 .before in
     let x = s .args .x in
     let b = toBits binary32 x in
     let u = c .before .magnitude .result in

@@ -29,8 +29,7 @@ out-of-range-requires c κs = search needs
 returns : tie.Need-returns Inv-loop μ-loop
 returns c =
     let s4 = c .before .before .before .before in
-    let s5 = s4 .before in
-    let s = s5 in
+    let s = s4 .before in
     let l = c .before .before .before .before .loop in
     let k = getD (s .args .keys .now) (l .i) (pos 0) in
     key-refused (s .args .keys .now) (s .args .count) (l .i) (s .pre .1) (s .pre .0) (l .inv .1) (c .before .before .before .loop-test .taken)
@@ -39,8 +38,7 @@ returns c =
 loop-again : tie.Need-loop-again Inv-loop μ-loop
 loop-again c =
     let s4 = c .before .before .before .before in
-    let s5 = s4 .before in
-    let s = s5 in
+    let s = s4 .before in
     let l = c .before .before .before .before .loop in
     let k = getD (s .args .keys .now) (l .i) (pos 0) in (
       omega arith,

@@ -31,8 +31,7 @@ most-is c = back (c .before .largest .result) (c .before .largest .ok) ∙ c .be
 is-there : (c : tie.Else3) → hasTable (keys-of c) ≡ true
 is-there c =
     let s4 = c .before .before .before .before in
-    let s5 = s4 .before in
-    let s = s5 in
+    let s = s4 .before in
     let m = c .before .before .before .smallest in
     has-table (keys-of c) (omega (arith, length-take-le (s .args .count) (s .args .keys .now) (omega arith)))
     (sym (ap (λ z. ltZ z (pos 0)) (back (m .result) (m .ok) ∙ m .ensures)) ∙ c .before .before .if2 .left)
@@ -60,8 +59,7 @@ largest-requires c κs = search needs
 returns-3 : tie.Need-returns-3
 returns-3 c =
     let s4 = c .before .before .before .before in
-    let s5 = s4 .before in
-    let s = s5 in
+    let s = s4 .before in
     let m = c .before .largest in
     sym (not-tabled (take (s .args .count) (s .args .keys .now))
     (large-none (take (s .args .count) (s .args .keys .now)) (sym (ap (ltZ (pos 512)) (back (m .result) (m .ok) ∙ m .ensures)) ∙ c .if3 .taken)))

@@ -22,8 +22,7 @@ length-is : (c : tie.After-count-is) → c .count-is .result
     (c .before .before .before .before .before .args .colors)
 length-is c =
     let s4 = c .before .before .before .before in
-    let s5 = s4 .before in
-    let s = s5 in
+    let s = s4 .before in
     let n = c .before .range-count in
     c .count-is .ensures
     ∙ ap (λ z. countIs z (s .args .colors)) (back (n .result) (n .ok) ∙ n .ensures ∙ back₂ rangeCount (s .args .start) (s .args .end) (s .fits .start .sfits)
@@ -60,8 +59,7 @@ unfolding valueRangeRefusal
 returns-2 c =
     let s4 = c .before .before .before .before in
     let s5 = s4 .before in
-    let s6 = s5 .before in
-    let s = s6 in
+    let s = s5 .before in
     wide-is (s5)
     ∙ sym (ap (λ (t : Bool). wideRefusal (s .args .start) (s .args .end) (refuseIf (not t) ColorCountDiffers Done))
     (sym (length-is (c .before)) ∙ c .if1 .taken))
@@ -71,8 +69,7 @@ unfolding valueRangeRefusal
 returns-3 c =
     let s4 = c .before .before .before .before in
     let s5 = s4 .before in
-    let s6 = s5 .before in
-    let s = s6 in
+    let s = s5 .before in
     sym (ap (λ (t : Bool). wideRefusal (s .args .start) (s .args .end) (refuseIf (not t) ColorCountDiffers Done)) (sym (length-is (c .before)) ∙ c .if1 .left)
     ∙ cleared (wideRefusal (s .args .start) (s .args .end)) (wide-checks (s .args .start) (s .args .end)) (Refused ColorCountDiffers)
     (sym (wide-is (s5)) ∙ c .before .before .before .enum-told2 .given .1))

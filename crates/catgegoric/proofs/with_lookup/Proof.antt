@@ -13,8 +13,7 @@ create-fast-lookup-requires c κs = search needs
 returns : tie.Need-returns
 returns c =
     let s4 = c .before .before .before .before in
-    let s5 = s4 .before in
-    let s = s5 in
+    let s = s4 .before in
     ap₂ (λ l n. record { keys = s .args .t1; colors = s .args .t2; count = s .args .count; lookup = l; «lookup_count» = n }) (c .create-fast-lookup .ensures)
     (c .before .before .before .lookup-size .ensures)
 

@@ -33,8 +33,7 @@ largest-requires c κs = search needs
 int-to-float-t7 : tie.Need-int-to-float-t7
 int-to-float-t7 c =
     let s4 = c .before .before .before .before in
-    let s5 = s4 .before in
-    let s = s5 in
+    let s = s4 .before in
     let ks = take (s .args .count) (s .args .keys .now) in
     let l : length ks ≡ s .args .count = length-take-le (s .args .count) (s .args .keys .now) (omega (arith, s .pre .0, s .pre .1)) in
     let h : 0 < length ks = omega arith in
@@ -43,8 +42,7 @@ int-to-float-t7 c =
 returns-2 : tie.Need-returns-2
 returns-2 c =
     let s4 = c .before .before .before .before in
-    let s5 = s4 .before in
-    let s = s5 in
+    let s = s4 .before in
     let ks = take (s .args .count) (s .args .keys .now) in
     let l : length ks ≡ s .args .count = length-take-le (s .args .count) (s .args .keys .now) (omega (arith, s .pre .0, s .pre .1)) in
     let h : 0 < length ks = omega arith in

@@ -41,8 +41,7 @@ returns : tie.Need-returns
 returns c =
     let painted = c .before .before in
     let s4 = painted .before .before .before .before in
-    let s5 = s4 .before in
-    let s = s5 in
+    let s = s4 .before in
     let a = s .args in
     let k : a .from + (a .to - a .from) ≡ a .to = omega arith in
     ap₂ (λ ys rest. take (a .from) (a .out .now) ++ (ys ++ rest)) (painted .paint-simd .ensures)

@@ -26,22 +26,19 @@ sub-loop c = search needs
 chunk-requires : tie.Need-chunk-requires Inv-loop μ-loop
 chunk-requires c κs =
     let st4 = c .before .before .before .before in
-    let st5 = st4 .before in
-    let s5 = st5 in
+    let s5 = st4 .before in
     (s5 .pre .0, omega arith, omega arith)
 
 loop-less : tie.Need-loop-less Inv-loop μ-loop
 loop-less c =
     let st4 = c .before .before .before .before in
-    let st8 = st4 .before .before .before .before in
-    let s8 = st8 in
+    let s8 = st4 .before .before .before .before in
     omega (arith, lane-sizes (s8 .args .l) (s8 .pre .0) .0)
 
 loop-again : tie.Need-loop-again Inv-loop μ-loop
 loop-again c =
     let st4 = c .before .before .before .before in
-    let st5 = st4 .before in
-    let s5 = st5 in
+    let s5 = st4 .before in
     let s8 = s5 .before .before .before in (
       refl,
       chunk-turn (s5 .loop .inv .1) (lane-sizes _ (s8 .pre .0) .0) (omega arith) (λ xs. length-masked _ _ xs _ (length-map xs _))
@@ -57,8 +54,7 @@ same-length c = search needs
 returns : tie.Need-returns Inv-loop μ-loop
 returns c =
     let st4 = c .before .before .before .before in
-    let st5 = st4 .before in
-    let s5 = st5 in
+    let s5 = st4 .before in
     c .before .before .rest .ensures ∙ chunks-end (s5 .loop .inv .1) (omega arith)
 
 pub paint-simd-spec : {M : Type 1} → statement M

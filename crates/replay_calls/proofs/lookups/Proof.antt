@@ -20,8 +20,7 @@ returns : tie.Need-returns
 unfolding lookupRow
 returns c =
     let st4 = c .before .before .before .before in
-    let st6 = st4 .before .before in
-    let s6 = st6 in
+    let s6 = st4 .before .before in
     let s7 = s6 .before in
     let s8 = s7 .before in
     let s10 = s8 .before .before in

@@ -40,8 +40,7 @@ same-length-2 c = search needs
 returns-2 : tie.Need-returns-2
 returns-2 c =
     let s4 = c .before .before .before .before in
-    let s5 = s4 .before in
-    let painted = s5 in
+    let painted = s4 .before in
     let made = painted .before .before .before in
     let lent = made .before in
     let told = lent .before in

@@ -48,14 +48,12 @@ same-length-2 c = search needs
 returns-2 : tie.Need-returns-2
 returns-2 c =
     let s4 = c .before .before .before .before in
-    let s5 = s4 .before in
-    let painted = s5 in
+    let painted = s4 .before in
     let made = painted .before .before .before in
     let lent = made .before .before in
     let told = lent .before in
     let st4 = told .before .before .before .before in
-    let st5 = st4 .before in
-    let start = st5 in
+    let start = st4 .before in
     let nodata = made .before .i16-to-f32 .ensures ∙ ap ofI16 (toZ-ofZ {w = w16} (start .fits .nodata)) in
     lanes-painted _ _ _ _ (told .before .before .use-refusal .ensures) (told .enum-told2 .given .1) (lent .view-from-c .ensures)
     (made .nodata-if .ensures ∙ ap (nodataIf (start .args .nodata-given)) nodata)

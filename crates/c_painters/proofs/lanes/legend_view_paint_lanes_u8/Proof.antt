@@ -45,14 +45,12 @@ same-length-2 c = search needs
 returns-2 : tie.Need-returns-2
 returns-2 c =
     let s4 = c .before .before .before .before in
-    let s5 = s4 .before in
-    let painted = s5 in
+    let painted = s4 .before in
     let made = painted .before .before .before in
     let lent = made .before .before in
     let told = lent .before in
     let st4 = told .before .before .before .before in
-    let st6 = st4 .before .before in
-    let start = st6 in
+    let start = st4 .before .before in
     lanes-painted _ _ _ _ (told .before .before .use-refusal .ensures) (told .enum-told2 .given .1) (lent .view-from-c .ensures)
     (made .nodata-if .ensures ∙ ap (nodataIf (start .args .nodata-given)) (made .before .u8-to-f32 .ensures))
     (c .to-c2 .ensures) (painted .apply-to-data-kernel-u8 .ensures)

@@ -46,8 +46,7 @@ returns-2 c =
     let lent = made .before .before in
     let told = lent .before in
     let s4 = told .before .before .before .before in
-    let s5 = s4 .before in
-    let start = s5 in
+    let start = s4 .before in
     plain-painted _ _ _ _ (told .before .before .use-refusal .ensures) (told .enum-told2 .given .1) (lent .view-from-c .ensures)
     (made .nodata-if .ensures ∙ ap (nodataIf (start .args .nodata-given)) (made .before .u8-to-f32 .ensures))
     (c .to-c2 .ensures) (painted .apply-to-data-scalar-u8 .ensures)

@@ -30,9 +30,8 @@ returns : tie.Need-returns
 returns c =
     let d = c .before .before .before in
     let s4 = d .before .before .before .before in
-    let s5 = s4 .before in
+    let s = s4 .before in
     let p = d .before .before .before .insertion-index in
-    let s = s5 in
     let a = s .args in
     let x = getD (a .keys .now) (p .result) (pos 0) in
     put-over (a .keys .now) (a .colors .now) (a .count) (back (a .key) (s .fits .key .sfits)) (p .ensures) (d .before .before .if1 .taken)
@@ -41,8 +40,7 @@ returns c =
 shift-up-requires : tie.Need-shift-up-requires
 shift-up-requires c κs =
     let s4 = c .before .before .before .before in
-    let s5 = s4 .before in
-    let s = s5 in
+    let s = s4 .before in
     let p = c .before .before .before .insertion-index in (
       omega (arith, p .ensures, place-count (toZ w64 (ofZ w64 (s .args .key))) (s .args .keys .now) (s .args .count) (s .pre .1) (omega arith)),
       s .pre .0,
@@ -54,8 +52,7 @@ store-requires-2 : tie.Need-store-requires-2
 store-requires-2 c κs =
     let s4 = c .before .before .before .before in
     let s6 = s4 .before .before in
-    let s8 = s6 .before .before in
-    let s = s8 in
+    let s = s6 .before .before in
     let p = s6 .insertion-index in
     omega (arith, p .ensures, place-count (toZ w64 (ofZ w64 (s .args .key))) (s .args .keys .now) (s .args .count) (s .pre .1) (omega arith))
 
@@ -65,9 +62,8 @@ add-result c = search needs
 returns-2 : tie.Need-returns-2
 returns-2 c =
     let s4 = c .before .before .before .before in
-    let s6 = s4 .before .before in
+    let d = s4 .before .before in
     let m = c .before .before .before .shift-up in
-    let d = s6 in
     let p = d .before .insertion-index in
     let s = d .before .before .before in
     let a = s .args in

@@ -81,8 +81,7 @@ array-write-lookup c = omega (arith, index-is (c .before), in-table (c .before))
 loop-again : tie.Need-loop-again Inv-loop μ-loop
 loop-again c =
     let s4 = c .before .before .before .before in
-    let s5 = s4 .before in
-    let s = s5 in
+    let s = s4 .before in
     let l = c .before .before .before .loop in (
       omega arith,
       ap (λ n. set (l .lookup) n (getD (s .args .colors .now) (l .i) 0)) (index-is (c .before))

@@ -20,8 +20,7 @@ same-length c = search needs
 returns : tie.Need-returns
 returns c =
     let s4 = c .before .before .before .before in
-    let s5 = s4 .before in
-    let s = s5 in
+    let s = s4 .before in
     let st4 = s .before .before .before .before in
     let st5 = st4 .before in
     let a = st5 .args in

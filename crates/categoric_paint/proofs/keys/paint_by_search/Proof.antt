@@ -48,8 +48,7 @@ same-length c = search needs
 returns : tie.Need-returns Inv-loop μ-loop
 returns c =
     let s4 = c .before .before .before .before in
-    let s5 = s4 .before in
-    let s = s5 in
+    let s = s4 .before in
     c .before .before .rest-by-search .ensures
     ∙ chunks-end (s .loop .inv .3) (omega arith)
     ∙ plain-in-blocks 16 _ _

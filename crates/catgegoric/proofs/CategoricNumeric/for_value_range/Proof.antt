@@ -40,15 +40,13 @@ count-is : (c : tie.After-key-count) → c .key-count .result
     ≡ whole (rangeCount (c .before .before .before .before .before .args .start) (c .before .before .before .before .before .args .end))
 count-is c =
     let s4 = c .before .before .before .before in
-    let s5 = s4 .before in
-    let s = s5 in
+    let s = s4 .before in
     c .key-count .ensures ∙ back₂ (λ a b. whole (rangeCount a b)) (s .args .start) (s .args .end) (s .fits .start .sfits) (s .fits .end .sfits)
 
 count-few : (c : tie.After-key-count) → c .key-count .result ≤ 256
 count-few c =
     let s4 = c .before .before .before .before in
-    let s5 = s4 .before in
-    let s = s5 in
+    let s = s4 .before in
     omega (arith, count-is c, wide-few (s .args .start) (s .args .end) (wide (c .before)))
 
 keys-is : (c : tie.After-range-keys) → c .range-keys .result
@@ -56,8 +54,7 @@ keys-is : (c : tie.After-range-keys) → c .range-keys .result
     (c .before .before .before .before .before .before .args .end))
 keys-is c =
     let s4 = c .before .before .before .before in
-    let s6 = s4 .before .before in
-    let s = s6 in
+    let s = s4 .before .before in
     c .range-keys .ensures
     ∙ ap (padded (pos 0) 256)
     (keys-are (s .args .start) (s .args .end) (toZ w64 (ofZ w64 (s .args .start))) (toZ w64 (ofZ w64 (s .args .end))) (c .before .key-count .result)
@@ -75,8 +72,7 @@ refused-requires c κs = search needs
 returns : tie.Need-returns
 returns c =
     let s4 = c .before .before .before .before in
-    let s5 = s4 .before in
-    let s = s5 in
+    let s = s4 .before in
     refused (rangeKeys (s .args .start) (s .args .end)) (s .args .colors .now)
     (stopped (valueRangeRefusal (s .args .start) (s .args .end) (length (s .args .colors .now)))
     (range-checks (s .args .start) (s .args .end) (length (s .args .colors .now))) (keysRefusal (rangeKeys (s .args .start) (s .args .end)))
@@ -105,8 +101,7 @@ range-keys-requires c κs =
 list-colors-requires : tie.Need-list-colors-requires
 list-colors-requires c κs =
     let s4 = c .before .before .before .before in
-    let s6 = s4 .before .before in
-    let s = s6 in
+    let s = s4 .before .before in
     omega (
       arith,
       count-is (c .before),
@@ -140,8 +135,7 @@ returns-2 c =
     let s4 = c .before .before .before .before in
     let s5 = s4 .before in
     let s6 = s5 .before in
-    let s10 = s6 .before .before .before .before in
-    let s = s10 in
+    let s = s6 .before .before .before .before in
     built (valueRangeRefusal (s .args .start) (s .args .end) (length (s .args .colors .now)))
     (range-checks (s .args .start) (s .args .end) (length (s .args .colors .now))) (s5 .key-count .result) (rangeKeys (s .args .start) (s .args .end))
     (s .args .colors .now) (c .before .before .before .before .range-keys .result) (c .before .before .before .list-colors .result) (clear (s6))

@@ -48,8 +48,7 @@ keys-is : (c : tie.After-range-keys) → c .range-keys .result
     ≡ padded (pos 0) 256 (rangeKeys (c .before .before .before .before .before .args .start) (c .before .before .before .before .before .args .end))
 keys-is c =
     let s4 = c .before .before .before .before in
-    let s5 = s4 .before in
-    let s = s5 in
+    let s = s4 .before in
     c .range-keys .ensures
     ∙ ap (padded (pos 0) 256)
     (keys-are (s .args .start) (s .args .end) (toZ w64 (ofZ w64 (s .args .start))) (toZ w64 (ofZ w64 (s .args .end))) (c .before .key-count .result)
@@ -112,8 +111,7 @@ returns-2 c =
     let s4 = c .before .before .before .before in
     let s5 = s4 .before in
     let s6 = s5 .before in
-    let s9 = s6 .before .before .before in
-    let s = s9 in
+    let s = s6 .before .before .before in
     built (wideRefusal (s .args .start) (s .args .end)) (wide-checks (s .args .start) (s .args .end)) (s5 .key-count .result)
     (rangeKeys (s .args .start) (s .args .end)) (rampColors (whole (rangeCount (s .args .start) (s .args .end))) (s .args .cmap .now))
     (c .before .before .before .before .range-keys .result) (c .before .before .before .ramp-colors .result) (clear (s6))

@@ -23,8 +23,7 @@ refused-requires c κs = search needs
 returns : tie.Need-returns
 returns c =
     let s4 = c .before .before .before .before in
-    let s5 = s4 .before in
-    let s = s5 in
+    let s = s4 .before in
     let v = s .args .values .now in
     let w = s .args .colors .now in
     refused v w (stopped (valuesRefusal (length v) (length w)) (values-checks (length v) (length w)) (keysRefusal v)
@@ -41,8 +40,7 @@ list-keys-requires c κs =
 list-colors-requires : tie.Need-list-colors-requires
 list-colors-requires c κs =
     let s4 = c .before .before .before .before in
-    let s5 = s4 .before in
-    let s = s5 in
+    let s = s4 .before in
     let e = sym (c .before .before .before .values-refusal .ensures) ∙ c .before .enum-told2 .given .1 in
     omega (
       arith,
@@ -55,8 +53,7 @@ create-requires : tie.Need-create-requires
 create-requires c κs =
     let s4 = c .before .before .before .before in
     let s6 = s4 .before .before in
-    let s8 = s6 .before .before in
-    let s = s8 in
+    let s = s6 .before .before in
     let v = s .args .values .now in
     let w = s .args .colors .now in
     let e = sym (s6 .values-refusal .ensures) ∙ c .before .before .before .before .enum-told2 .given .1 in
@@ -72,8 +69,7 @@ returns-2 c =
     let s4 = c .before .before .before .before in
     let s5 = s4 .before in
     let s7 = s5 .before .before in
-    let s9 = s7 .before .before in
-    let s = s9 in
+    let s = s7 .before .before in
     let v = s .args .values .now in
     let w = s .args .colors .now in
     let e = sym (s7 .values-refusal .ensures) ∙ s5 .enum-told2 .given .1 in

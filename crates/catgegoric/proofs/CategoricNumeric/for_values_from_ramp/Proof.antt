@@ -45,8 +45,7 @@ create-requires : tie.Need-create-requires
 create-requires c κs =
     let s4 = c .before .before .before .before in
     let s6 = s4 .before .before in
-    let s7 = s6 .before in
-    let s = s7 in
+    let s = s6 .before in
     let v = s .args .values .now in
     let h = few (length v) (sym (s6 .many-refusal .ensures) ∙ c .before .before .before .before .enum-told2 .given .1) in (
       h,
@@ -60,8 +59,7 @@ returns-2 c =
     let s4 = c .before .before .before .before in
     let s5 = s4 .before in
     let s7 = s5 .before .before in
-    let s8 = s7 .before in
-    let s = s8 in
+    let s = s7 .before in
     let v = s .args .values .now in
     let w = rampColors (length v) (s .args .cmap .now) in
     built (manyRefusal (length v)) (many-checks (length v)) (length v) v w (c .before .before .before .before .list-keys .result)

@@ -13,8 +13,7 @@ returns-2 : tie.Need-returns-2
 unfolding storedRefusal
 returns-2 c =
     let st4 = c .before .before .before .before in
-    let st5 = st4 .before in
-    let s5 = st5 in
+    let s5 = st4 .before in
     let a = s5 .args in
     c .banded-refusal .ensures ∙ sym (ap (λ k. storedIn k (a .self)) (c .before .enum-told2 .given .1))
 
@@ -22,8 +21,7 @@ returns-3 : tie.Need-returns-3
 unfolding storedRefusal
 returns-3 c =
     let st4 = c .before .before .before .before in
-    let st5 = st4 .before in
-    let s5 = st5 in
+    let s5 = st4 .before in
     let a = s5 .args in
     c .categoric-refusal .ensures ∙ sym (ap (λ k. storedIn k (a .self)) (c .before .enum-told3 .given .1))
 

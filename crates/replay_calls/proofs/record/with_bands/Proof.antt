@@ -9,8 +9,7 @@ returns : tie.Need-returns
 unfolding withBands
 returns c =
     let s4 = c .before .before .before .before in
-    let s6 = s4 .before .before in
-    let s = s6 in
+    let s = s4 .before .before in
     cc (
       c .put3 .ensures,
       c .before .before .put2 .ensures,

@@ -42,8 +42,7 @@ returns : tie.Need-returns
 unfolding withRecord
 returns c =
     let st4 = c .before .before .before .before in
-    let st8 = st4 .before .before .before .before in
-    let s8 = st8 in
+    let s8 = st4 .before .before .before .before in
     let s10 = s8 .before .before in
     let s11 = s10 .before in
     let a = s11 .args in
@@ -56,8 +55,7 @@ returns-2 : tie.Need-returns-2
 unfolding withRecord
 returns-2 c =
     let st4 = c .before .before .before .before in
-    let st7 = st4 .before .before .before in
-    let s7 = st7 in
+    let s7 = st4 .before .before .before in
     let s9 = s7 .before .before in
     let s10 = s9 .before in
     let a = s10 .args in
@@ -70,8 +68,7 @@ returns-3 : tie.Need-returns-3
 unfolding withRecord
 returns-3 c =
     let st4 = c .before .before .before .before in
-    let st7 = st4 .before .before .before in
-    let s7 = st7 in
+    let s7 = st4 .before .before .before in
     let s9 = s7 .before .before in
     let s10 = s9 .before in
     let a = s10 .args in

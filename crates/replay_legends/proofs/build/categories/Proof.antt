@@ -10,8 +10,7 @@ use Rattle.replay_legends.proofs.build.categories.Tie as tie
 array-share-prefix-keys : tie.Need-array-share-prefix-keys
 array-share-prefix-keys c =
     let st4 = c .before .before .before .before in
-    let st5 = st4 .before in
-    let s5 = st5 in
+    let s5 = st4 .before in
     let s7 = s5 .before .before in
     let s8 = s7 .before in
     prefix-fits (getD (s8 .args .row .now) 10 0) (s7 .keys .result) (s5 .at-most .ensures) (search needs)
@@ -19,8 +18,7 @@ array-share-prefix-keys c =
 slice-aggregate-create-categoric-for-value-list-from-ramp : tie.Need-slice-aggregate-create-categoric-for-value-list-from-ramp
 slice-aggregate-create-categoric-for-value-list-from-ramp c =
     let st4 = c .before .before .before .before in
-    let st6 = st4 .before .before in
-    let s6 = st6 in
+    let s6 = st4 .before .before in
     let s8 = s6 .before .before in
     let s9 = s8 .before in
     prefix-long (getD (s9 .args .row .now) 10 0) (s8 .keys .result) (s6 .at-most .ensures) (search needs)
@@ -39,23 +37,20 @@ returns c =
 array-share-prefix-list : tie.Need-array-share-prefix-list
 array-share-prefix-list c =
     let st4 = c .before .before .before .before in
-    let st8 = st4 .before .before .before .before in
-    let s8 = st8 in
+    let s8 = st4 .before .before .before .before in
     prefix-fits (getD (s8 .args .row .now) 2 0) (c .before .before .words-at .result) (c .at-most2 .ensures) (search needs)
 
 slice-aggregate-create-categoric-for-value-list : tie.Need-slice-aggregate-create-categoric-for-value-list
 slice-aggregate-create-categoric-for-value-list c =
     let s3 = c .before .before .before in
     let st4 = s3 .before .before .before .before in
-    let st6 = st4 .before .before in
-    let s9 = st6 in
+    let s9 = st4 .before .before in
     prefix-long (getD (s9 .args .row .now) 2 0) (s3 .words-at .result) (c .before .at-most2 .ensures) (search needs)
 
 array-share-prefix-keys-2 : tie.Need-array-share-prefix-keys-2
 array-share-prefix-keys-2 c =
     let st4 = c .before .before .before .before in
-    let st6 = st4 .before .before in
-    let s6 = st6 in
+    let s6 = st4 .before .before in
     let s8 = s6 .before .before in
     let s9 = s8 .before in
     prefix-fits (getD (s9 .args .row .now) 10 0) (s8 .keys .result) (s6 .at-most .ensures) (search needs)
@@ -63,8 +58,7 @@ array-share-prefix-keys-2 c =
 slice-aggregate-create-categoric-for-value-list-2 : tie.Need-slice-aggregate-create-categoric-for-value-list-2
 slice-aggregate-create-categoric-for-value-list-2 c =
     let st4 = c .before .before .before .before in
-    let st7 = st4 .before .before .before in
-    let s7 = st7 in
+    let s7 = st4 .before .before .before in
     let s9 = s7 .before .before in
     let s10 = s9 .before in
     prefix-long (getD (s10 .args .row .now) 10 0) (s9 .keys .result) (s7 .at-most .ensures) (search needs)

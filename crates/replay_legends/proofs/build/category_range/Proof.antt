@@ -12,8 +12,7 @@ returns c =
     let s3 = c .before .before .before in
     let s4 = s3 .before in
     let st4 = s4 .before .before .before .before in
-    let st6 = st4 .before .before in
-    let s10 = st6 in
+    let s10 = st4 .before .before in
     c .create-categoric-for-value-range-from-ramp .ensures
     ∙ range-palette (s10 .args .row .now) (s10 .args .config) (s4 .if1 .taken) (search needs) (search needs) (s3 .palette-ramp .ensures)
 
@@ -21,16 +20,14 @@ array-share-prefix-list : tie.Need-array-share-prefix-list
 array-share-prefix-list c =
     let st4 = c .before .before .before .before in
     let st8 = st4 .before .before .before .before in
-    let st9 = st8 .before in
-    let s9 = st9 in
+    let s9 = st8 .before in
     prefix-fits (getD (s9 .args .row .now) 2 0) (c .before .before .words-at .result) (c .at-most .ensures) (search needs)
 
 slice-aggregate-create-categoric-for-value-range : tie.Need-slice-aggregate-create-categoric-for-value-range
 slice-aggregate-create-categoric-for-value-range c =
     let s3 = c .before .before .before in
     let st4 = s3 .before .before .before .before in
-    let st7 = st4 .before .before .before in
-    let s10 = st7 in
+    let s10 = st4 .before .before .before in
     prefix-long (getD (s10 .args .row .now) 2 0) (s3 .words-at .result) (c .before .at-most .ensures) (search needs)
 
 returns-2 : tie.Need-returns-2
@@ -38,8 +35,7 @@ returns-2 c =
     let s4 = c .before .before .before .before in
     let s5 = s4 .before in
     let st4 = s5 .before .before .before .before in
-    let st6 = st4 .before .before in
-    let s11 = st6 in
+    let s11 = st4 .before .before in
     c .create-categoric-for-value-range .ensures
     ∙ range-list (s11 .args .row .now) (s11 .args .config) (s5 .if1 .left) (c .before .before .at-most .ensures) (s4 .words-at .ensures) (search needs)
     (search needs)

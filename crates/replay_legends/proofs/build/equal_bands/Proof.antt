@@ -23,8 +23,7 @@ array-share-prefix-list : tie.Need-array-share-prefix-list
 array-share-prefix-list c =
     let st4 = c .before .before .before .before in
     let st8 = st4 .before .before .before .before in
-    let st11 = st8 .before .before .before in
-    let s11 = st11 in
+    let s11 = st8 .before .before .before in
     prefix-fits (getD (s11 .args .row .now) 2 0) (c .before .before .words-at .result) (c .at-most .ensures) (search needs)
 
 slice-aggregate-create-banded : tie.Need-slice-aggregate-create-banded
@@ -32,8 +31,7 @@ slice-aggregate-create-banded c =
     let s3 = c .before .before .before in
     let st4 = s3 .before .before .before .before in
     let st8 = st4 .before .before .before .before in
-    let st9 = st8 .before in
-    let s12 = st9 in
+    let s12 = st8 .before in
     prefix-long (getD (s12 .args .row .now) 2 0) (s3 .words-at .result) (c .before .at-most .ensures) (search needs)
 
 returns-2 : tie.Need-returns-2

@@ -20,16 +20,14 @@ array-share-prefix-list : tie.Need-array-share-prefix-list
 array-share-prefix-list c =
     let st4 = c .before .before .before .before in
     let st8 = st4 .before .before .before .before in
-    let st9 = st8 .before in
-    let s9 = st9 in
+    let s9 = st8 .before in
     prefix-fits (getD (s9 .args .row .now) 2 0) (c .before .before .words-at .result) (c .at-most .ensures) (search needs)
 
 slice-aggregate-create-linear : tie.Need-slice-aggregate-create-linear
 slice-aggregate-create-linear c =
     let s3 = c .before .before .before in
     let st4 = s3 .before .before .before .before in
-    let st7 = st4 .before .before .before in
-    let s10 = st7 in
+    let s10 = st4 .before .before .before in
     prefix-long (getD (s10 .args .row .now) 2 0) (s3 .words-at .result) (c .before .at-most .ensures) (search needs)
 
 returns-2 : tie.Need-returns-2

@@ -19,8 +19,7 @@ returns c =
 array-share-prefix-list : tie.Need-array-share-prefix-list
 array-share-prefix-list c =
     let st4 = c .before .before .before .before in
-    let st6 = st4 .before .before in
-    let s6 = st6 in
+    let s6 = st4 .before .before in
     prefix-fits (getD (s6 .args .row .now) 2 0) (c .before .before .words-at .result) (c .at-most .ensures) (search needs)
 
 slice-aggregate-create-banded-manual-ranges : tie.Need-slice-aggregate-create-banded-manual-ranges

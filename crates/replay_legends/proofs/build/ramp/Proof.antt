@@ -17,8 +17,7 @@ returns c =
 array-share-prefix-list : tie.Need-array-share-prefix-list
 array-share-prefix-list c =
     let st4 = c .before .before .before .before in
-    let st5 = st4 .before in
-    let s5 = st5 in
+    let s5 = st4 .before in
     prefix-fits (getD (s5 .args .row .now) 2 0) (c .before .before .words-at .result) (c .at-most .ensures) (search needs)
 
 slice-aggregate-create : tie.Need-slice-aggregate-create

@@ -8,8 +8,7 @@ use Rattle.replay_legends.proofs.build.settings.Tie as tie
 returns : tie.Need-returns
 returns c =
     let st4 = c .before .before .before .before in
-    let st6 = st4 .before .before in
-    let s6 = st6 in
+    let s6 = st4 .before .before in
     settings-are (s6 .args .row .now) (c .before .before .optional .ensures) (c .optional2 .ensures)
 
 pub settings-spec : {M : Type 1} → statement M

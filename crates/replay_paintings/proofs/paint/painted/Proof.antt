@@ -37,30 +37,25 @@ plain-requires : tie.Need-plain-requires
 plain-requires c κs =
     let values = c .before .before .before .before in
     let s4 = values .before .before .before .before in
-    let s5 = s4 .before in
-    let known = s5 in
+    let known = s4 .before in
     few known
 
 lanes-requires : tie.Need-lanes-requires
 lanes-requires c κs =
     let plain = c .before .before .before .before in
     let s4 = plain .before .before .before .before in
-    let s5 = s4 .before in
-    let values = s5 in
+    let values = s4 .before in
     let st4 = values .before .before .before .before in
-    let st5 = st4 .before in
-    let known = st5 in
+    let known = st4 .before in
     few known
 
 lanes-requires-2 : tie.Need-lanes-requires-2
 lanes-requires-2 c κs =
     let four = c .before .before .before .before in
     let s4 = four .before .before .before .before in
-    let s5 = s4 .before in
-    let plain = s5 in
+    let plain = s4 .before in
     let st4 = plain .before .before .before .before in
-    let st5 = st4 .before in
-    let values = st5 in
+    let values = st4 .before in
     let sts4 = values .before .before .before .before in
     let sts5 = sts4 .before in
     let known = sts5 in
@@ -70,11 +65,9 @@ lanes-requires-3 : tie.Need-lanes-requires-3
 lanes-requires-3 c κs =
     let eight = c .before .before .before .before in
     let s4 = eight .before .before .before .before in
-    let s5 = s4 .before in
-    let four = s5 in
+    let four = s4 .before in
     let st4 = four .before .before .before .before in
-    let st5 = st4 .before in
-    let plain = st5 in
+    let plain = st4 .before in
     let sts4 = plain .before .before .before .before in
     let sts5 = sts4 .before in
     let values = sts5 in
@@ -86,11 +79,9 @@ lanes-requires-3 c κs =
 returns : tie.Need-returns
 returns c =
     let s4 = c .before .before .before .before in
-    let s5 = s4 .before in
-    let eight = s5 in
+    let eight = s4 .before in
     let st4 = eight .before .before .before .before in
-    let st5 = st4 .before in
-    let four = st5 in
+    let four = st4 .before in
     let sts4 = four .before .before .before .before in
     let sts5 = sts4 .before in
     let plain = sts5 in

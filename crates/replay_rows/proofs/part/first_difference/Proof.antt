@@ -26,8 +26,7 @@ element-copy-out-if1-2 c = search needs
 
 returns : tie.Need-returns Inv-loop μ-loop
 returns c =
-    let s4 = c .before .before .before .before in
-    let l = s4 in
+    let l = c .before .before .before .before in
     let a = l .before .args in
     let n : 1680 - l .loop .i ≡ suc (1680 - (l .loop .i + 1)) = omega arith in
     sym (l .loop .inv .1
@@ -36,8 +35,7 @@ returns c =
 
 loop-again : tie.Need-loop-again Inv-loop μ-loop
 loop-again c =
-    let s4 = c .before .before .before .before in
-    let l = s4 in
+    let l = c .before .before .before .before in
     let a = l .before .args in
     let n : 1680 - l .loop .i ≡ suc (1680 - (l .loop .i + 1)) = omega arith in (
       omega arith,

@@ -37,8 +37,7 @@ array-write-words c = search needs
 loop-again : tie.Need-loop-again Inv-loop μ-loop
 loop-again c =
     let st4 = c .before .before .before .before in
-    let st6 = st4 .before .before in
-    let s6 = st6 in
+    let s6 = st4 .before .before in
     filling-turn (s6 .loop .inv) (omega arith) (omega arith) (c .word .ensures)
 
 returns : tie.Need-returns Inv-loop μ-loop

@@ -28,8 +28,7 @@ wrapping-add-u64-requires c κs = search needs
 loop-again : tie.Need-loop-again Inv-loop μ-loop
 unfolding sumTo
 loop-again c =
-    let s3 = c .before .before .before in
-    let l = s3 in
+    let l = c .before .before .before in
     let n = l .before .args .numbers .now in (
       omega arith,
       c .wrapping-add-u64 .ensures
