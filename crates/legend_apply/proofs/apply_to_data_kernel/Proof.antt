@@ -4,18 +4,6 @@ use borrow.Author.Needs.{needs}
 use Rattle.legend_apply.proofs.apply_to_data_kernel.Statement.{statement}
 use Rattle.legend_apply.proofs.apply_to_data_kernel.Tie as tie
 
-view-of-requires : tie.Need-view-of-requires
-view-of-requires c κs = search needs
-
-apply-to-data-kernel-requires : tie.Need-apply-to-data-kernel-requires
-apply-to-data-kernel-requires c κs = search needs
-
-same-length : tie.Need-same-length
-same-length c = search needs
-
-same-length-2 : tie.Need-same-length-2
-same-length-2 c = search needs
-
 returns : tie.Need-returns
 returns c =
     let s4 = c .before .before .before .before in
@@ -27,4 +15,4 @@ returns c =
     let a = s21 .args in in-lanes (a .legend) (a .nodata) (s11 .view-of .ensures) (c .before .before .before .before .apply-to-data-kernel .ensures)
 
 pub apply-to-data-kernel-spec : {M : Type 1} → statement M
-apply-to-data-kernel-spec = tie.close (tie.spec view-of-requires apply-to-data-kernel-requires same-length same-length-2 returns)
+apply-to-data-kernel-spec = tie.close (tie.spec (λ c κs. search needs) (λ c κs. search needs) (λ c. search needs) (λ c. search needs) returns)

@@ -4,15 +4,6 @@ use borrow.Author.Needs.{needs}
 use Rattle.legend_apply.proofs.apply_to_data_scalar.Statement.{statement}
 use Rattle.legend_apply.proofs.apply_to_data_scalar.Tie as tie
 
-view-of-requires : tie.Need-view-of-requires
-view-of-requires c κs = search needs
-
-apply-to-data-scalar-requires : tie.Need-apply-to-data-scalar-requires
-apply-to-data-scalar-requires c κs = search needs
-
-same-length : tie.Need-same-length
-same-length c = search needs
-
 returns : tie.Need-returns
 returns c =
     let s4 = c .before .before .before .before in
@@ -23,4 +14,4 @@ returns c =
     let a = s17 .args in plainly (a .legend) (a .nodata) (s8 .view-of .ensures) (c .before .before .apply-to-data-scalar .ensures)
 
 pub apply-to-data-scalar-spec : {M : Type 1} → statement M
-apply-to-data-scalar-spec = tie.close (tie.spec view-of-requires apply-to-data-scalar-requires same-length returns)
+apply-to-data-scalar-spec = tie.close (tie.spec (λ c κs. search needs) (λ c κs. search needs) (λ c. search needs) returns)

@@ -9,32 +9,11 @@ use borrow.Author.Needs.{needs}
 use Rattle.legend_apply.proofs.color_list.Statement.{statement}
 use Rattle.legend_apply.proofs.color_list.Tie as tie
 
-total-range-refusal-requires : tie.Need-total-range-refusal-requires
-total-range-refusal-requires c κs = search needs
-
-enum-told : tie.Need-enum-told
-enum-told c = search needs
-
 returns : tie.Need-returns
 returns c = list-refused (c .before .before .before .args .legend) (c .before .before .total-range-refusal .ensures) (c .enum-told .given .1)
 
-enum-told-2 : tie.Need-enum-told-2
-enum-told-2 c = search needs
-
 range-of-requires : tie.Need-range-of-requires
 range-of-requires c κs = sym (c .before .before .total-range-refusal .ensures) ∙ c .enum-told2 .given .1
-
-list-values-requires : tie.Need-list-values-requires
-list-values-requires c κs = search needs
-
-view-of-requires : tie.Need-view-of-requires
-view-of-requires c κs = search needs
-
-slice-aggregate-paint : tie.Need-slice-aggregate-paint
-slice-aggregate-paint c = search needs
-
-slice-aggregate-paint-2 : tie.Need-slice-aggregate-paint-2
-slice-aggregate-paint-2 c = search needs
 
 paint-requires : tie.Need-paint-requires
 paint-requires c κs =
@@ -65,5 +44,6 @@ returns-2 c =
 
 pub color-list-spec : {M : Type 1} → statement M
 color-list-spec =
-    tie.close (tie.spec total-range-refusal-requires enum-told returns enum-told-2 range-of-requires list-values-requires view-of-requires slice-aggregate-paint
-    slice-aggregate-paint-2 paint-requires returns-2)
+    tie.close
+    (tie.spec (λ c κs. search needs) (λ c. search needs) returns (λ c. search needs) range-of-requires (λ c κs. search needs) (λ c κs. search needs)
+    (λ c. search needs) (λ c. search needs) paint-requires returns-2)

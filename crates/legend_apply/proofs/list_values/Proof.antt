@@ -23,17 +23,8 @@ int-to-float-values : tie.Need-int-to-float-values Inv-loop μ-loop
 unfolding inFloat
 int-to-float-values c = le→leb (c .before .before .before .loop .i) (2 ^ 24) (omega arith)
 
-mul-values : tie.Need-mul-values Inv-loop μ-loop
-mul-values c = search needs
-
 array-write-values : tie.Need-array-write-values Inv-loop μ-loop
 array-write-values c = search needs
-
-add-i : tie.Need-add-i Inv-loop μ-loop
-add-i c = search needs
-
-loop-less : tie.Need-loop-less Inv-loop μ-loop
-loop-less c = search needs
 
 loop-again : tie.Need-loop-again Inv-loop μ-loop
 loop-again c =
@@ -48,14 +39,5 @@ returns c = filled (c .before .loop .inv) (omega arith)
 pub list-values-spec : {M : Type 1} → statement M
 list-values-spec =
     tie.close
-    (tie.spec
-    Inv-loop
-    μ-loop
-    loop-holds
-    int-to-float-values
-    mul-values
-    array-write-values
-    add-i
-    loop-less
-    loop-again
+    (tie.spec Inv-loop μ-loop loop-holds int-to-float-values (λ c. search needs) array-write-values (λ c. search needs) (λ c. search needs) loop-again
     returns)

@@ -6,12 +6,6 @@ use borrow.Author.Needs.{needs}
 use Rattle.legend_kernel.proofs.update_scratch.Statement.{statement}
 use Rattle.legend_kernel.proofs.update_scratch.Tie as tie
 
-keep-last-requires : tie.Need-keep-last-requires
-keep-last-requires c κs = search needs
-
-same-length : tie.Need-same-length
-same-length c = search needs
-
 returns : tie.Need-returns
 returns c =
     let s4 = c .before .before .before .before in
@@ -25,4 +19,4 @@ returns-2 c =
     let a = c .before .before .before .args in sym (ap (λ b. cond b (scratchAfter (a .lanes) (a .out .now) (a .scratch .now)) (a .scratch .now)) (c .if1 .left))
 
 pub update-scratch-spec : {M : Type 1} → statement M
-update-scratch-spec = tie.close (tie.spec keep-last-requires same-length returns returns-2)
+update-scratch-spec = tie.close (tie.spec (λ c κs. search needs) (λ c. search needs) returns returns-2)

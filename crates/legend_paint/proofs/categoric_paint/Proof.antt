@@ -5,11 +5,8 @@ use borrow.Author.Needs.{needs}
 use Rattle.legend_paint.proofs.categoric_paint.Statement.{statement}
 use Rattle.legend_paint.proofs.categoric_paint.Tie as tie
 
-exclusions-of-requires : tie.Need-exclusions-of-requires
-exclusions-of-requires c κs = search needs
-
 returns : tie.Need-returns
 returns c = let a = c .before .args in ap (λ (e : Exclusions). record { nodata = a .config .«nodata_color»; exclusions = e }) (c .exclusions-of .ensures)
 
 pub categoric-paint-spec : {M : Type 1} → statement M
-categoric-paint-spec = tie.close (tie.spec exclusions-of-requires returns)
+categoric-paint-spec = tie.close (tie.spec (λ c κs. search needs) returns)

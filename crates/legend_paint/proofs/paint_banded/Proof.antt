@@ -12,18 +12,6 @@ use borrow.Author.Needs.{needs}
 use Rattle.legend_paint.proofs.paint_banded.Statement.{statement}
 use Rattle.legend_paint.proofs.paint_banded.Tie as tie
 
-banded-paint-requires : tie.Need-banded-paint-requires
-banded-paint-requires c κs = search needs
-
-starts-of-requires : tie.Need-starts-of-requires
-starts-of-requires c κs = search needs
-
-ends-of-requires : tie.Need-ends-of-requires
-ends-of-requires c κs = search needs
-
-colors-of-requires : tie.Need-colors-of-requires
-colors-of-requires c κs = search needs
-
 paint-requires : tie.Need-paint-requires
 paint-requires c κs =
     let s4 = c .before .before .before .before in
@@ -32,21 +20,19 @@ paint-requires c κs =
     let s12 = s9 .before .before .before in
     (subst (λ (p : BandedPaint). p .count ≤ 64) (sym (s9 .banded-paint .ensures)) (s12 .pre .0), search needs)
 
-same-length : tie.Need-same-length
-same-length c = search needs
-
 returns : tie.Need-returns
 returns c =
     let s4 = c .before .before .before .before in
+    let s8 = s4 .before .before .before .before in
+    let sized : length (s8 .before .before .starts-of .result) ≡ 64 = search needs in
     let s7 = s4 .before .before .before in
-    let s8 = s7 .before in
     let s9 = s8 .before in
     let s10 = s9 .before in
     let s12 = s10 .before .before in
     let s15 = s12 .before .before .before in
     let a = s15 .args in
-    let long : length (a .banded .bands) ≡ 64 = sym (length-map (a .banded .bands) (λ (x : LegendBand). x .start)) ∙ ap length (sym (s10 .starts-of .ensures))
-    ∙ search needs in
+    let long : length (a .banded .bands) ≡ 64 =
+    sym (length-map (a .banded .bands) (λ (x : LegendBand). x .start)) ∙ ap length (sym (s10 .starts-of .ensures)) ∙ sized in
     let few : a .banded .count ≤ length (a .banded .bands) = omega (arith, long, s15 .pre .0) in
     c .before .before .paint .ensures ∙ painted-plainly (bandedPainter (a .banded) (a .config) (a .nodata)) (a .lanes) (a .src .now)
     (bands-sample (a .config) (a .nodata) (a .banded) few (s12 .banded-paint .ensures) (s10 .starts-of .ensures) (s9 .ends-of .ensures)
@@ -64,21 +50,19 @@ paint-simd-requires c κs =
       search needs,
     )
 
-same-length-2 : tie.Need-same-length-2
-same-length-2 c = search needs
-
 returns-2 : tie.Need-returns-2
 returns-2 c =
     let s4 = c .before .before .before .before in
+    let s8 = s4 .before .before .before .before in
+    let sized : length (s8 .before .before .starts-of .result) ≡ 64 = search needs in
     let s7 = s4 .before .before .before in
-    let s8 = s7 .before in
     let s9 = s8 .before in
     let s10 = s9 .before in
     let s12 = s10 .before .before in
     let s15 = s12 .before .before .before in
     let a = s15 .args in
-    let long : length (a .banded .bands) ≡ 64 = sym (length-map (a .banded .bands) (λ (x : LegendBand). x .start)) ∙ ap length (sym (s10 .starts-of .ensures))
-    ∙ search needs in
+    let long : length (a .banded .bands) ≡ 64 =
+    sym (length-map (a .banded .bands) (λ (x : LegendBand). x .start)) ∙ ap length (sym (s10 .starts-of .ensures)) ∙ sized in
     let few : a .banded .count ≤ length (a .banded .bands) = omega (arith, long, s15 .pre .0) in
     c .before .before .paint-simd .ensures ∙ painted-in-lanes (bandedPainter (a .banded) (a .config) (a .nodata)) (a .lanes) (a .src .now)
     (bands-chunk (a .config) (a .nodata) (a .banded) few (s12 .banded-paint .ensures) (s10 .starts-of .ensures) (s9 .ends-of .ensures) (s8 .colors-of .ensures))
@@ -88,14 +72,5 @@ returns-2 c =
 pub paint-banded-spec : {M : Type 1} → statement M
 paint-banded-spec =
     tie.close
-    (tie.spec
-    banded-paint-requires
-    starts-of-requires
-    ends-of-requires
-    colors-of-requires
-    paint-requires
-    same-length
-    returns
-    paint-simd-requires
-    same-length-2
-    returns-2)
+    (tie.spec (λ c κs. search needs) (λ c κs. search needs) (λ c κs. search needs) (λ c κs. search needs) paint-requires (λ c. search needs) returns
+    paint-simd-requires (λ c. search needs) returns-2)

@@ -12,15 +12,6 @@ use borrow.Author.Needs.{needs}
 use Rattle.legend_paint.proofs.paint_categoric.Statement.{statement}
 use Rattle.legend_paint.proofs.paint_categoric.Tie as tie
 
-categoric-paint-requires : tie.Need-categoric-paint-requires
-categoric-paint-requires c κs = search needs
-
-paint-by-keys-requires : tie.Need-paint-by-keys-requires
-paint-by-keys-requires c κs = search needs
-
-same-length : tie.Need-same-length
-same-length c = search needs
-
 returns : tie.Need-returns
 returns c =
     let s4 = c .before .before .before .before in
@@ -32,12 +23,6 @@ returns c =
     (ap (keySample (a .keys .now) (a .colors .now) (a .count)) (s5 .categoric-paint .ensures) ∙ key-sample (a .config) (a .nodata) k
     (c .before .before .before .before .if1 .taken)) ∙ painted-without (categoricPainter k (a .config) (a .nodata)) (a .lanes) (a .src .now)
     (keys-simd (a .config) (a .nodata) k (c .before .before .before .before .if1 .taken))
-
-paint-by-table-requires : tie.Need-paint-by-table-requires
-paint-by-table-requires c κs = search needs
-
-same-length-2 : tie.Need-same-length-2
-same-length-2 c = search needs
 
 returns-2 : tie.Need-returns-2
 returns-2 c =
@@ -57,9 +42,6 @@ paint-by-table-simd-requires c κs =
     let s6 = s4 .before .before in
     (s6 .pre .1, lanes-count (s6 .args .lanes) (s6 .pre .2) (c .before .if2 .left), search needs)
 
-same-length-3 : tie.Need-same-length-3
-same-length-3 c = search needs
-
 returns-3 : tie.Need-returns-3
 returns-3 c =
     let s4 = c .before .before .before .before in
@@ -76,14 +58,5 @@ returns-3 c =
 pub paint-categoric-spec : {M : Type 1} → statement M
 paint-categoric-spec =
     tie.close
-    (tie.spec
-    categoric-paint-requires
-    paint-by-keys-requires
-    same-length
-    returns
-    paint-by-table-requires
-    same-length-2
-    returns-2
-    paint-by-table-simd-requires
-    same-length-3
-    returns-3)
+    (tie.spec (λ c κs. search needs) (λ c κs. search needs) (λ c. search needs) returns (λ c κs. search needs) (λ c. search needs) returns-2
+    paint-by-table-simd-requires (λ c. search needs) returns-3)

@@ -9,15 +9,6 @@ use borrow.Author.Needs.{needs}
 use Rattle.legend_paint.proofs.paint_linear.Statement.{statement}
 use Rattle.legend_paint.proofs.paint_linear.Tie as tie
 
-linear-paint-requires : tie.Need-linear-paint-requires
-linear-paint-requires c κs = search needs
-
-paint-requires : tie.Need-paint-requires
-paint-requires c κs = search needs
-
-same-length : tie.Need-same-length
-same-length c = search needs
-
 returns : tie.Need-returns
 returns c =
     let s4 = c .before .before .before .before in
@@ -34,9 +25,6 @@ paint-simd-requires c κs =
     let s5 = s4 .before in
     (lanes-count (s5 .args .lanes) (s5 .pre .0) (c .before .if1 .left), search needs)
 
-same-length-2 : tie.Need-same-length-2
-same-length-2 c = search needs
-
 returns-2 : tie.Need-returns-2
 returns-2 c =
     let s4 = c .before .before .before .before in
@@ -52,11 +40,4 @@ returns-2 c =
 pub paint-linear-spec : {M : Type 1} → statement M
 paint-linear-spec =
     tie.close
-    (tie.spec
-    linear-paint-requires
-    paint-requires
-    same-length
-    returns
-    paint-simd-requires
-    same-length-2
-    returns-2)
+    (tie.spec (λ c κs. search needs) (λ c κs. search needs) (λ c. search needs) returns paint-simd-requires (λ c. search needs) returns-2)

@@ -8,17 +8,11 @@ use borrow.Author.Needs.{needs}
 use Rattle.legend_paint.proofs.paint_simd.Statement.{statement}
 use Rattle.legend_paint.proofs.paint_simd.Tie as tie
 
-enum-told : tie.Need-enum-told
-enum-told c = search needs
-
 paint-linear-requires : tie.Need-paint-linear-requires
 paint-linear-requires c κs =
     let s4 = c .before .before .before .before in
     let s6 = s4 .before .before in
     (s6 .pre .1, search needs)
-
-enum-told-2 : tie.Need-enum-told-2
-enum-told-2 c = search needs
 
 paint-banded-requires : tie.Need-paint-banded-requires
 paint-banded-requires c κs =
@@ -28,9 +22,6 @@ paint-banded-requires c κs =
     let l = borrowedLegend (a .view) (a .cmap .now) (a .keys .now) (a .colors .now) (a .lookup .now) in
     (bands-stored l (s7 .pre .0) (c .before .before .enum-told2 .given .1), s7 .pre .1, search needs)
 
-enum-told-3 : tie.Need-enum-told-3
-enum-told-3 c = search needs
-
 paint-categoric-requires : tie.Need-paint-categoric-requires
 paint-categoric-requires c κs =
     let s4 = c .before .before .before .before in
@@ -38,9 +29,6 @@ paint-categoric-requires c κs =
     let a = s6 .args in
     let l = borrowedLegend (a .view) (a .cmap .now) (a .keys .now) (a .colors .now) (a .lookup .now) in
     let f = categories-stored l (s6 .pre .0) (c .before .enum-told3 .given .1) in (f .0, f .1, s6 .pre .1, search needs)
-
-same-length : tie.Need-same-length
-same-length c = search needs
 
 returns : tie.Need-returns
 unfolding painter
@@ -53,9 +41,6 @@ returns c =
     c .before .before .paint-linear .ensures ∙ ap (λ k. painted (painterIn k l (a .nodata)) (a .l) (a .src .now))
     (sym (c .before .before .before .before .enum-told .given .1))
 
-same-length-2 : tie.Need-same-length-2
-same-length-2 c = search needs
-
 returns-2 : tie.Need-returns-2
 unfolding painter
 returns-2 c =
@@ -66,9 +51,6 @@ returns-2 c =
     let a = s10 .args in
     let l = borrowedLegend (a .view) (a .cmap .now) (a .keys .now) (a .colors .now) (a .lookup .now) in
     c .before .before .paint-banded .ensures ∙ ap (λ k. painted (painterIn k l (a .nodata)) (a .l) (a .src .now)) (sym (s5 .enum-told2 .given .1))
-
-same-length-3 : tie.Need-same-length-3
-same-length-3 c = search needs
 
 returns-3 : tie.Need-returns-3
 unfolding painter
@@ -84,16 +66,5 @@ returns-3 c =
 pub paint-simd-spec : {M : Type 1} → statement M
 paint-simd-spec =
     tie.close
-    (tie.spec
-    enum-told
-    paint-linear-requires
-    enum-told-2
-    paint-banded-requires
-    enum-told-3
-    paint-categoric-requires
-    same-length
-    returns
-    same-length-2
-    returns-2
-    same-length-3
-    returns-3)
+    (tie.spec (λ c. search needs) paint-linear-requires (λ c. search needs) paint-banded-requires (λ c. search needs) paint-categoric-requires
+    (λ c. search needs) returns (λ c. search needs) returns-2 (λ c. search needs) returns-3)

@@ -8,15 +8,6 @@ use borrow.Author.Needs.{needs}
 use Rattle.legend_pixel.proofs.color_for_value.Statement.{statement}
 use Rattle.legend_pixel.proofs.color_for_value.Tie as tie
 
-stored-refusal-requires : tie.Need-stored-refusal-requires
-stored-refusal-requires c κs = search needs
-
-enum-known-why : tie.Need-enum-known-why
-enum-known-why c = search needs
-
-enum-told : tie.Need-enum-told
-enum-told c = search needs
-
 pixel-requires : tie.Need-pixel-requires
 pixel-requires c κs =
     let a = c .before .before .before .args in sym (c .before .before .stored-refusal .ensures (a .cmap .now) (a .keys .now) (a .colors .now) (a .lookup .now))
@@ -38,6 +29,4 @@ returns-2 c =
     (sym (c .before .before .before .stored-refusal .ensures (a .cmap .now) (a .keys .now) (a .colors .now) (a .lookup .now)) ∙ c .before .enum-told .given .1))
 
 pub color-for-value-spec : {M : Type 1} → statement M
-color-for-value-spec =
-    tie.close
-    (tie.spec stored-refusal-requires enum-known-why enum-told pixel-requires returns returns-2)
+color-for-value-spec = tie.close (tie.spec (λ c κs. search needs) (λ c. search needs) (λ c. search needs) pixel-requires returns returns-2)

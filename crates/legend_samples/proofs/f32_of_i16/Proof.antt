@@ -19,26 +19,14 @@ abbrev μ-loop : tie.MeasureT-loop
 loop-holds : tie.Need-loop-holds Inv-loop μ-loop
 loop-holds c = convert-start (search needs) (search needs)
 
-mul-i16-to-f32 : tie.Need-mul-i16-to-f32 Inv-loop μ-loop
-mul-i16-to-f32 c = search needs
-
 shared-slice-copy-out-i16-to-f32 : tie.Need-shared-slice-copy-out-i16-to-f32 Inv-loop μ-loop
 shared-slice-copy-out-i16-to-f32 c = search needs
 
 i16-to-f32-requires : tie.Need-i16-to-f32-requires Inv-loop μ-loop
 i16-to-f32-requires c κs = search needs
 
-mul-result : tie.Need-mul-result Inv-loop μ-loop
-mul-result c = search needs
-
 array-write-result : tie.Need-array-write-result Inv-loop μ-loop
 array-write-result c = search needs
-
-add-i : tie.Need-add-i Inv-loop μ-loop
-add-i c = search needs
-
-loop-less : tie.Need-loop-less Inv-loop μ-loop
-loop-less c = search needs
 
 loop-again : tie.Need-loop-again Inv-loop μ-loop
 loop-again c =
@@ -51,16 +39,5 @@ returns c = convert-end (c .before .loop .inv) (search needs)
 pub f32-of-i16-spec : {M : Type 1} → statement M
 f32-of-i16-spec =
     tie.close
-    (tie.spec
-    Inv-loop
-    μ-loop
-    loop-holds
-    mul-i16-to-f32
-    shared-slice-copy-out-i16-to-f32
-    i16-to-f32-requires
-    mul-result
-    array-write-result
-    add-i
-    loop-less
-    loop-again
-    returns)
+    (tie.spec Inv-loop μ-loop loop-holds (λ c. search needs) shared-slice-copy-out-i16-to-f32 i16-to-f32-requires (λ c. search needs)
+    array-write-result (λ c. search needs) (λ c. search needs) loop-again returns)

@@ -21,17 +21,8 @@ shared-slice-read-u8-to-f32 c = search needs
 u8-to-f32-requires : tie.Need-u8-to-f32-requires Inv-loop μ-loop
 u8-to-f32-requires c κs = search needs
 
-mul-result : tie.Need-mul-result Inv-loop μ-loop
-mul-result c = search needs
-
 array-write-result : tie.Need-array-write-result Inv-loop μ-loop
 array-write-result c = search needs
-
-add-i : tie.Need-add-i Inv-loop μ-loop
-add-i c = search needs
-
-loop-less : tie.Need-loop-less Inv-loop μ-loop
-loop-less c = search needs
 
 loop-again : tie.Need-loop-again Inv-loop μ-loop
 loop-again c = convert-turn (c .before .before .before .loop .inv) (search needs) (c .u8-to-f32 .ensures)
@@ -42,15 +33,5 @@ returns c = convert-end (c .before .loop .inv) (search needs)
 pub f32-of-u8-spec : {M : Type 1} → statement M
 f32-of-u8-spec =
     tie.close
-    (tie.spec
-    Inv-loop
-    μ-loop
-    loop-holds
-    shared-slice-read-u8-to-f32
-    u8-to-f32-requires
-    mul-result
-    array-write-result
-    add-i
-    loop-less
-    loop-again
-    returns)
+    (tie.spec Inv-loop μ-loop loop-holds shared-slice-read-u8-to-f32 u8-to-f32-requires (λ c. search needs) array-write-result (λ c. search needs)
+    (λ c. search needs) loop-again returns)

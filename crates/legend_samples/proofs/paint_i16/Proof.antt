@@ -22,12 +22,6 @@ loop-holds c = blocked-start (search needs) (search needs)
 block-end-requires : tie.Need-block-end-requires Inv-loop μ-loop
 block-end-requires c κs = search needs
 
-mul-f32-of-i16 : tie.Need-mul-f32-of-i16 Inv-loop μ-loop
-mul-f32-of-i16 c = search needs
-
-sub-f32-of-i16 : tie.Need-sub-f32-of-i16 Inv-loop μ-loop
-sub-f32-of-i16 c = search needs
-
 part-f32-of-i16-start : tie.Need-part-f32-of-i16-start Inv-loop μ-loop
 part-f32-of-i16-start c = search needs
 
@@ -43,9 +37,6 @@ slice-aggregate-block c = search needs
 block-requires : tie.Need-block-requires Inv-loop μ-loop
 block-requires c κs = search needs
 
-loop-less : tie.Need-loop-less Inv-loop μ-loop
-loop-less c = search needs
-
 loop-again : tie.Need-loop-again Inv-loop μ-loop
 loop-again c =
     let painted = c .before .before in
@@ -54,28 +45,11 @@ loop-again c =
     blocked-turn (converted .f32-of-i16 .result) (ended .before .before .loop .inv) (ended .block-end .ensures)
     (converted .f32-of-i16 .ensures) (painted .block .ensures)
 
-same-length : tie.Need-same-length Inv-loop μ-loop
-same-length c = search needs
-
 returns : tie.Need-returns Inv-loop μ-loop
 returns c = blocked-end (c .before .loop .inv) (search needs)
 
 pub paint-i16-spec : {M : Type 1} → statement M
 paint-i16-spec =
     tie.close
-    (tie.spec
-    Inv-loop
-    μ-loop
-    loop-holds
-    block-end-requires
-    mul-f32-of-i16
-    sub-f32-of-i16
-    part-f32-of-i16-start
-    part-f32-of-i16-end
-    f32-of-i16-requires
-    slice-aggregate-block
-    block-requires
-    loop-less
-    loop-again
-    same-length
-    returns)
+    (tie.spec Inv-loop μ-loop loop-holds block-end-requires (λ c. search needs) (λ c. search needs) part-f32-of-i16-start part-f32-of-i16-end
+    f32-of-i16-requires slice-aggregate-block block-requires (λ c. search needs) loop-again (λ c. search needs) returns)

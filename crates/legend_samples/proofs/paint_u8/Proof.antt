@@ -22,9 +22,6 @@ loop-holds c = blocked-start (search needs) (search needs)
 block-end-requires : tie.Need-block-end-requires Inv-loop μ-loop
 block-end-requires c κs = search needs
 
-sub-f32-of-u8 : tie.Need-sub-f32-of-u8 Inv-loop μ-loop
-sub-f32-of-u8 c = search needs
-
 part-f32-of-u8-start : tie.Need-part-f32-of-u8-start Inv-loop μ-loop
 part-f32-of-u8-start c = search needs
 
@@ -40,9 +37,6 @@ slice-aggregate-block c = search needs
 block-requires : tie.Need-block-requires Inv-loop μ-loop
 block-requires c κs = search needs
 
-loop-less : tie.Need-loop-less Inv-loop μ-loop
-loop-less c = search needs
-
 loop-again : tie.Need-loop-again Inv-loop μ-loop
 loop-again c =
     let painted = c .before .before in
@@ -51,27 +45,11 @@ loop-again c =
     blocked-turn (converted .f32-of-u8 .result) (ended .before .before .loop .inv) (ended .block-end .ensures)
     (converted .f32-of-u8 .ensures) (painted .block .ensures)
 
-same-length : tie.Need-same-length Inv-loop μ-loop
-same-length c = search needs
-
 returns : tie.Need-returns Inv-loop μ-loop
 returns c = blocked-end (c .before .loop .inv) (search needs)
 
 pub paint-u8-spec : {M : Type 1} → statement M
 paint-u8-spec =
     tie.close
-    (tie.spec
-    Inv-loop
-    μ-loop
-    loop-holds
-    block-end-requires
-    sub-f32-of-u8
-    part-f32-of-u8-start
-    part-f32-of-u8-end
-    f32-of-u8-requires
-    slice-aggregate-block
-    block-requires
-    loop-less
-    loop-again
-    same-length
-    returns)
+    (tie.spec Inv-loop μ-loop loop-holds block-end-requires (λ c. search needs) part-f32-of-u8-start part-f32-of-u8-end f32-of-u8-requires
+    slice-aggregate-block block-requires (λ c. search needs) loop-again (λ c. search needs) returns)

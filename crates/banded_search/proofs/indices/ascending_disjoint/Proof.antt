@@ -6,15 +6,9 @@ use Rattle.banded_columns.specs.Order.{ascendingDisjoint}
 use Rattle.banded_search.proofs.indices.ascending_disjoint.Statement.{statement}
 use Rattle.banded_search.proofs.indices.ascending_disjoint.Tie as tie
 
-start-below-ends-requires : tie.Need-start-below-ends-requires
-start-below-ends-requires c κs = search needs
-
-are-disjoint-requires : tie.Need-are-disjoint-requires
-are-disjoint-requires c κs = search needs
-
 returns : tie.Need-returns
 unfolding ascendingDisjoint
 returns c = λ colors. ap₂ (λ (a b : Bool). a && b) (c .before .start-below-ends .ensures colors) (c .are-disjoint .ensures colors)
 
 pub ascending-disjoint-spec : {M : Type 1} → statement M
-ascending-disjoint-spec = tie.close (tie.spec start-below-ends-requires are-disjoint-requires returns)
+ascending-disjoint-spec = tie.close (tie.spec (λ c κs. search needs) (λ c κs. search needs) returns)

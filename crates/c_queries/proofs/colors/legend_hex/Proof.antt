@@ -5,14 +5,8 @@ use borrow.Author.Needs.{needs}
 use Rattle.c_queries.proofs.colors.legend_hex.Statement.{statement}
 use Rattle.c_queries.proofs.colors.legend_hex.Tie as tie
 
-from-hex-string-requires : tie.Need-from-hex-string-requires
-from-hex-string-requires c κs = search needs
-
-hex-to-c-requires : tie.Need-hex-to-c-requires
-hex-to-c-requires c κs = search needs
-
 returns : tie.Need-returns
 returns c = c .hex-to-c .ensures ∙ ap hexToC (c .before .from-hex-string .ensures)
 
 pub legend-hex-spec : {M : Type 1} → statement M
-legend-hex-spec = tie.close (tie.spec from-hex-string-requires hex-to-c-requires returns)
+legend-hex-spec = tie.close (tie.spec (λ c κs. search needs) (λ c κs. search needs) returns)

@@ -5,14 +5,8 @@ use borrow.Author.Needs.{needs}
 use Rattle.c_queries.proofs.colors.legend_palette.Statement.{statement}
 use Rattle.c_queries.proofs.colors.legend_palette.Tie as tie
 
-palette-of-requires : tie.Need-palette-of-requires
-palette-of-requires c κs = search needs
-
-palette-to-c-requires : tie.Need-palette-to-c-requires
-palette-to-c-requires c κs = search needs
-
 returns : tie.Need-returns
 returns c = c .palette-to-c .ensures ∙ ap paletteToC (c .before .palette-of .ensures)
 
 pub legend-palette-spec : {M : Type 1} → statement M
-legend-palette-spec = tie.close (tie.spec palette-of-requires palette-to-c-requires returns)
+legend-palette-spec = tie.close (tie.spec (λ c κs. search needs) (λ c κs. search needs) returns)

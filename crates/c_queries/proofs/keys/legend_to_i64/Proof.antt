@@ -5,14 +5,8 @@ use borrow.Author.Needs.{needs}
 use Rattle.c_queries.proofs.keys.legend_to_i64.Statement.{statement}
 use Rattle.c_queries.proofs.keys.legend_to_i64.Tie as tie
 
-to-i64-requires : tie.Need-to-i64-requires
-to-i64-requires c κs = search needs
-
-key-to-c-requires : tie.Need-key-to-c-requires
-key-to-c-requires c κs = search needs
-
 returns : tie.Need-returns
 returns c = c .key-to-c .ensures ∙ ap keyToC (c .before .to-i64 .ensures)
 
 pub legend-to-i64-spec : {M : Type 1} → statement M
-legend-to-i64-spec = tie.close (tie.spec to-i64-requires key-to-c-requires returns)
+legend-to-i64-spec = tie.close (tie.spec (λ c κs. search needs) (λ c κs. search needs) returns)

@@ -5,14 +5,8 @@ use borrow.Author.Needs.{needs}
 use Rattle.c_queries.proofs.ramps.legend_get_color_simd.Statement.{statement}
 use Rattle.c_queries.proofs.ramps.legend_get_color_simd.Tie as tie
 
-get-color-simd-requires : tie.Need-get-color-simd-requires
-get-color-simd-requires c κs = search needs
-
-array-read-result : tie.Need-array-read-result
-array-read-result c = search needs
-
 returns : tie.Need-returns
 returns c = lane-at (c .get-color-simd .ensures) 0 0 (omega arith)
 
 pub legend-get-color-simd-spec : {M : Type 1} → statement M
-legend-get-color-simd-spec = tie.close (tie.spec get-color-simd-requires array-read-result returns)
+legend-get-color-simd-spec = tie.close (tie.spec (λ c κs. search needs) (λ c. search needs) returns)

@@ -5,14 +5,8 @@ use borrow.Author.Needs.{needs}
 use Rattle.c_queries.proofs.ramps.legend_ramp_from_list.Statement.{statement}
 use Rattle.c_queries.proofs.ramps.legend_ramp_from_list.Tie as tie
 
-create-requires : tie.Need-create-requires
-create-requires c κs = search needs
-
-ramp-to-c-requires : tie.Need-ramp-to-c-requires
-ramp-to-c-requires c κs = search needs
-
 returns : tie.Need-returns
 returns c = c .ramp-to-c .ensures ∙ ap rampToC (c .before .create .ensures)
 
 pub legend-ramp-from-list-spec : {M : Type 1} → statement M
-legend-ramp-from-list-spec = tie.close (tie.spec create-requires ramp-to-c-requires returns)
+legend-ramp-from-list-spec = tie.close (tie.spec (λ c κs. search needs) (λ c κs. search needs) returns)

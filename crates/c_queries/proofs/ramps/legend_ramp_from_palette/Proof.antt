@@ -5,15 +5,8 @@ use borrow.Author.Needs.{needs}
 use Rattle.c_queries.proofs.ramps.legend_ramp_from_palette.Statement.{statement}
 use Rattle.c_queries.proofs.ramps.legend_ramp_from_palette.Tie as tie
 
-create-for-preset-requires : tie.Need-create-for-preset-requires
-create-for-preset-requires c κs = search needs
-
-ramp-to-c-requires : tie.Need-ramp-to-c-requires
-ramp-to-c-requires c κs = search needs
-
 returns : tie.Need-returns
 returns c = c .ramp-to-c .ensures ∙ ap rampToC (c .before .create-for-preset .ensures)
 
 pub legend-ramp-from-palette-spec : {M : Type 1} → statement M
-legend-ramp-from-palette-spec =
-    tie.close (tie.spec create-for-preset-requires ramp-to-c-requires returns)
+legend-ramp-from-palette-spec = tie.close (tie.spec (λ c κs. search needs) (λ c κs. search needs) returns)

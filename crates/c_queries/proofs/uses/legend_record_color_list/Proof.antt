@@ -7,18 +7,6 @@ use borrow.Author.Needs.{needs}
 use Rattle.c_queries.proofs.uses.legend_record_color_list.Statement.{statement}
 use Rattle.c_queries.proofs.uses.legend_record_color_list.Tie as tie
 
-legend-from-c-requires : tie.Need-legend-from-c-requires
-legend-from-c-requires c κs = search needs
-
-color-list-requires : tie.Need-color-list-requires
-color-list-requires c κs = search needs
-
-legend-refusal-requires : tie.Need-legend-refusal-requires
-legend-refusal-requires c κs = search needs
-
-list-to-c-requires : tie.Need-list-to-c-requires
-list-to-c-requires c κs = search needs
-
 returns : tie.Need-returns
 returns c =
     with-both listToC (c .list-to-c .ensures) (c .before .legend-refusal .ensures)
@@ -27,9 +15,4 @@ returns c =
 pub legend-record-color-list-spec : {M : Type 1} → statement M
 legend-record-color-list-spec =
     tie.close
-    (tie.spec
-    legend-from-c-requires
-    color-list-requires
-    legend-refusal-requires
-    list-to-c-requires
-    returns)
+    (tie.spec (λ c κs. search needs) (λ c κs. search needs) (λ c κs. search needs) (λ c κs. search needs) returns)

@@ -7,18 +7,6 @@ use borrow.Author.Needs.{needs}
 use Rattle.c_queries.proofs.uses.legend_record_total_value_range.Statement.{statement}
 use Rattle.c_queries.proofs.uses.legend_record_total_value_range.Tie as tie
 
-legend-from-c-requires : tie.Need-legend-from-c-requires
-legend-from-c-requires c κs = search needs
-
-total-value-range-requires : tie.Need-total-value-range-requires
-total-value-range-requires c κs = search needs
-
-legend-refusal-requires : tie.Need-legend-refusal-requires
-legend-refusal-requires c κs = search needs
-
-range-to-c-requires : tie.Need-range-to-c-requires
-range-to-c-requires c κs = search needs
-
 returns : tie.Need-returns
 returns c =
     with-both rangeToC (c .range-to-c .ensures) (c .before .legend-refusal .ensures)
@@ -27,9 +15,4 @@ returns c =
 pub legend-record-total-value-range-spec : {M : Type 1} → statement M
 legend-record-total-value-range-spec =
     tie.close
-    (tie.spec
-    legend-from-c-requires
-    total-value-range-requires
-    legend-refusal-requires
-    range-to-c-requires
-    returns)
+    (tie.spec (λ c κs. search needs) (λ c κs. search needs) (λ c κs. search needs) (λ c κs. search needs) returns)

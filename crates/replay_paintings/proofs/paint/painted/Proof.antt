@@ -6,21 +6,6 @@ use Rattle.replay_paintings.proofs.Painting.{at-most-40, all-are}
 use Rattle.replay_paintings.proofs.paint.painted.Statement.{statement}
 use Rattle.replay_paintings.proofs.paint.painted.Tie as tie
 
-view-of-requires : tie.Need-view-of-requires
-view-of-requires c κs = search needs
-
-floats-requires : tie.Need-floats-requires
-floats-requires c κs = search needs
-
-element-copy-out-at-most : tie.Need-element-copy-out-at-most
-element-copy-out-at-most c = search needs
-
-at-most-requires : tie.Need-at-most-requires
-at-most-requires c κs = search needs
-
-nodata-requires : tie.Need-nodata-requires
-nodata-requires c κs = search needs
-
 -- what every painting asks
 few : (c : tie.After-nodata) → c .before .at-most .result ≤ 40
 few c =
@@ -102,15 +87,5 @@ returns c =
 pub painted-spec : {M : Type 1} → statement M
 painted-spec =
     tie.close
-    (tie.spec
-    view-of-requires
-    floats-requires
-    element-copy-out-at-most
-    at-most-requires
-    nodata-requires
-    values-requires
-    plain-requires
-    lanes-requires
-    lanes-requires-2
-    lanes-requires-3
-    returns)
+    (tie.spec (λ c κs. search needs) (λ c κs. search needs) (λ c. search needs) (λ c κs. search needs) (λ c κs. search needs) values-requires
+    plain-requires lanes-requires lanes-requires-2 lanes-requires-3 returns)

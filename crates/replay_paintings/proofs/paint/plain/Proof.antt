@@ -7,18 +7,6 @@ use borrow.Author.Needs.{needs}
 use Rattle.replay_paintings.proofs.paint.plain.Statement.{statement}
 use Rattle.replay_paintings.proofs.paint.plain.Tie as tie
 
-element-copy-out-match : tie.Need-element-copy-out-match
-element-copy-out-match c = search needs
-
-plain-requires : tie.Need-plain-requires
-plain-requires c κs = search needs
-
-plain-requires-2 : tie.Need-plain-requires-2
-plain-requires-2 c κs = search needs
-
-plain-requires-3 : tie.Need-plain-requires-3
-plain-requires-3 c κs = search needs
-
 returns : tie.Need-returns
 returns c =
     let a = c .before .before .before .args in
@@ -36,13 +24,4 @@ returns-3 c =
     c .plain3 .ensures ∙ ap (plainWords _) (sym (other-samples _ (a .count) (a .row .now) (other .0 .1) (other .1)))
 
 pub plain-spec : {M : Type 1} → statement M
-plain-spec =
-    tie.close
-    (tie.spec
-    element-copy-out-match
-    plain-requires
-    plain-requires-2
-    plain-requires-3
-    returns
-    returns-2
-    returns-3)
+plain-spec = tie.close (tie.spec (λ c. search needs) (λ c κs. search needs) (λ c κs. search needs) (λ c κs. search needs) returns returns-2 returns-3)

@@ -23,9 +23,6 @@ abbrev μ-loop : tie.MeasureT-loop
 loop-holds : tie.Need-loop-holds Inv-loop μ-loop
 loop-holds c = storing-start
 
-mul-color-for-value : tie.Need-mul-color-for-value Inv-loop μ-loop
-mul-color-for-value c = search needs
-
 array-read-color-for-value : tie.Need-array-read-color-for-value Inv-loop μ-loop
 array-read-color-for-value c = search needs
 
@@ -35,17 +32,8 @@ color-for-value-requires c κs = search needs
 color-or-number-requires : tie.Need-color-or-number-requires Inv-loop μ-loop
 color-or-number-requires c κs = search needs
 
-mul-words : tie.Need-mul-words Inv-loop μ-loop
-mul-words c = search needs
-
 array-write-words : tie.Need-array-write-words Inv-loop μ-loop
 array-write-words c = search needs
-
-add-i : tie.Need-add-i Inv-loop μ-loop
-add-i c = search needs
-
-loop-less : tie.Need-loop-less Inv-loop μ-loop
-loop-less c = search needs
 
 loop-again : tie.Need-loop-again Inv-loop μ-loop
 loop-again c =
@@ -61,17 +49,5 @@ returns c =
 pub values-spec : {M : Type 1} → statement M
 values-spec =
     tie.close
-    (tie.spec
-    Inv-loop
-    μ-loop
-    loop-holds
-    mul-color-for-value
-    array-read-color-for-value
-    color-for-value-requires
-    color-or-number-requires
-    mul-words
-    array-write-words
-    add-i
-    loop-less
-    loop-again
-    returns)
+    (tie.spec Inv-loop μ-loop loop-holds (λ c. search needs) array-read-color-for-value color-for-value-requires color-or-number-requires
+    (λ c. search needs) array-write-words (λ c. search needs) (λ c. search needs) loop-again returns)

@@ -7,26 +7,11 @@ use borrow.Author.Needs.{needs}
 use Rattle.replay_paintings.proofs.raster_f32.lanes.Statement.{statement}
 use Rattle.replay_paintings.proofs.raster_f32.lanes.Tie as tie
 
-floats-requires : tie.Need-floats-requires
-floats-requires c κs = search needs
-
-array-share-prefix-samples : tie.Need-array-share-prefix-samples
-array-share-prefix-samples c = search needs
-
 slice-aggregate-apply-to-data-kernel : tie.Need-slice-aggregate-apply-to-data-kernel
 slice-aggregate-apply-to-data-kernel c = taken _ (c .before .floats .result) (search needs) (search needs)
 
-array-borrow-prefix-words : tie.Need-array-borrow-prefix-words
-array-borrow-prefix-words c = search needs
-
 slice-aggregate-apply-to-data-kernel-2 : tie.Need-slice-aggregate-apply-to-data-kernel-2
 slice-aggregate-apply-to-data-kernel-2 c = taken _ _ refl (search needs)
-
-slice-aggregate-apply-to-data-kernel-3 : tie.Need-slice-aggregate-apply-to-data-kernel-3
-slice-aggregate-apply-to-data-kernel-3 c = search needs
-
-apply-to-data-kernel-requires : tie.Need-apply-to-data-kernel-requires
-apply-to-data-kernel-requires c κs = search needs
 
 returns : tie.Need-returns
 unfolding sampleOf
@@ -39,12 +24,5 @@ returns c =
 pub lanes-spec : {M : Type 1} → statement M
 lanes-spec =
     tie.close
-    (tie.spec
-    floats-requires
-    array-share-prefix-samples
-    slice-aggregate-apply-to-data-kernel
-    array-borrow-prefix-words
-    slice-aggregate-apply-to-data-kernel-2
-    slice-aggregate-apply-to-data-kernel-3
-    apply-to-data-kernel-requires
-    returns)
+    (tie.spec (λ c κs. search needs) (λ c. search needs) slice-aggregate-apply-to-data-kernel (λ c. search needs)
+    slice-aggregate-apply-to-data-kernel-2 (λ c. search needs) (λ c κs. search needs) returns)

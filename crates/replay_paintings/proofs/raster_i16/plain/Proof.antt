@@ -8,23 +8,11 @@ use borrow.Author.Needs.{needs}
 use Rattle.replay_paintings.proofs.raster_i16.plain.Statement.{statement}
 use Rattle.replay_paintings.proofs.raster_i16.plain.Tie as tie
 
-shorts-requires : tie.Need-shorts-requires
-shorts-requires c κs = search needs
-
-array-share-prefix-samples : tie.Need-array-share-prefix-samples
-array-share-prefix-samples c = search needs
-
 slice-aggregate-apply-to-data-scalar-i16 : tie.Need-slice-aggregate-apply-to-data-scalar-i16
 slice-aggregate-apply-to-data-scalar-i16 c = taken _ (c .before .shorts .result) (search needs) (search needs)
 
-array-borrow-prefix-words : tie.Need-array-borrow-prefix-words
-array-borrow-prefix-words c = search needs
-
 slice-aggregate-apply-to-data-scalar-i16-2 : tie.Need-slice-aggregate-apply-to-data-scalar-i16-2
 slice-aggregate-apply-to-data-scalar-i16-2 c = taken _ _ refl (search needs)
-
-apply-to-data-scalar-i16-requires : tie.Need-apply-to-data-scalar-i16-requires
-apply-to-data-scalar-i16-requires c κs = search needs
 
 returns : tie.Need-returns
 unfolding sampleOf
@@ -38,11 +26,5 @@ returns c =
 pub plain-spec : {M : Type 1} → statement M
 plain-spec =
     tie.close
-    (tie.spec
-    shorts-requires
-    array-share-prefix-samples
-    slice-aggregate-apply-to-data-scalar-i16
-    array-borrow-prefix-words
-    slice-aggregate-apply-to-data-scalar-i16-2
-    apply-to-data-scalar-i16-requires
-    returns)
+    (tie.spec (λ c κs. search needs) (λ c. search needs) slice-aggregate-apply-to-data-scalar-i16 (λ c. search needs)
+    slice-aggregate-apply-to-data-scalar-i16-2 (λ c κs. search needs) returns)

@@ -7,21 +7,6 @@ use borrow.Author.Needs.{needs}
 use Rattle.replay_paintings.proofs.sample.float_of.Statement.{statement}
 use Rattle.replay_paintings.proofs.sample.float_of.Tie as tie
 
-float-requires : tie.Need-float-requires
-float-requires c κs = search needs
-
-byte-requires : tie.Need-byte-requires
-byte-requires c κs = search needs
-
-u8-to-f32-requires : tie.Need-u8-to-f32-requires
-u8-to-f32-requires c κs = search needs
-
-short-requires : tie.Need-short-requires
-short-requires c κs = search needs
-
-i16-to-f32-requires : tie.Need-i16-to-f32-requires
-i16-to-f32-requires c κs = search needs
-
 returns : tie.Need-returns
 unfolding sampleOf
 returns c = let a = c .before .before .args in c .float .ensures ∙ sym (ap (λ n. sampleOf n (a .word)) (c .before .match .keys1))
@@ -43,12 +28,5 @@ returns-3 c =
 pub float-of-spec : {M : Type 1} → statement M
 float-of-spec =
     tie.close
-    (tie.spec
-    float-requires
-    byte-requires
-    u8-to-f32-requires
-    short-requires
-    i16-to-f32-requires
-    returns
-    returns-2
+    (tie.spec (λ c κs. search needs) (λ c κs. search needs) (λ c κs. search needs) (λ c κs. search needs) (λ c κs. search needs) returns returns-2
     returns-3)

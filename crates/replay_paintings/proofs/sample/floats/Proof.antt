@@ -22,29 +22,14 @@ element-copy-out-number c = search needs
 loop-holds : tie.Need-loop-holds Inv-loop μ-loop
 loop-holds c = (refl, filling-start (search needs))
 
-add-float-of : tie.Need-add-float-of Inv-loop μ-loop
-add-float-of c = search needs
-
-mul-float-of : tie.Need-mul-float-of Inv-loop μ-loop
-mul-float-of c = search needs
-
 element-copy-out-float-of : tie.Need-element-copy-out-float-of Inv-loop μ-loop
 element-copy-out-float-of c = search needs
 
 float-of-requires : tie.Need-float-of-requires Inv-loop μ-loop
 float-of-requires c κs = search needs
 
-mul-floats : tie.Need-mul-floats Inv-loop μ-loop
-mul-floats c = search needs
-
 array-write-floats : tie.Need-array-write-floats Inv-loop μ-loop
 array-write-floats c = search needs
-
-add-i : tie.Need-add-i Inv-loop μ-loop
-add-i c = search needs
-
-loop-less : tie.Need-loop-less Inv-loop μ-loop
-loop-less c = search needs
 
 loop-again : tie.Need-loop-again Inv-loop μ-loop
 loop-again c = (refl, filling-turn (c .before .before .before .loop .inv .1) (omega arith) (omega arith) (search needs))
@@ -55,18 +40,5 @@ returns c = filled (c .before .loop .inv .1) (omega arith)
 pub floats-spec : {M : Type 1} → statement M
 floats-spec =
     tie.close
-    (tie.spec
-    Inv-loop
-    μ-loop
-    element-copy-out-number
-    loop-holds
-    add-float-of
-    mul-float-of
-    element-copy-out-float-of
-    float-of-requires
-    mul-floats
-    array-write-floats
-    add-i
-    loop-less
-    loop-again
-    returns)
+    (tie.spec Inv-loop μ-loop element-copy-out-number loop-holds (λ c. search needs) (λ c. search needs) element-copy-out-float-of float-of-requires
+    (λ c. search needs) array-write-floats (λ c. search needs) (λ c. search needs) loop-again returns)

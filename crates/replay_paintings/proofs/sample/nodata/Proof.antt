@@ -8,18 +8,6 @@ use borrow.Author.Needs.{needs}
 use Rattle.replay_paintings.proofs.sample.nodata.Statement.{statement}
 use Rattle.replay_paintings.proofs.sample.nodata.Tie as tie
 
-is-given-requires : tie.Need-is-given-requires
-is-given-requires c κs = search needs
-
-element-copy-out-float-of : tie.Need-element-copy-out-float-of
-element-copy-out-float-of c = search needs
-
-element-copy-out-float-of-2 : tie.Need-element-copy-out-float-of-2
-element-copy-out-float-of-2 c = search needs
-
-float-of-requires : tie.Need-float-of-requires
-float-of-requires c κs = search needs
-
 returns : tie.Need-returns
 returns c =
     let told = c .before .before .before in
@@ -33,12 +21,4 @@ returns-2 c =
     sym (ap (λ t. cond t (Value (sampleOf (sampleType row) (getD row 7 0))) Absent) (sym (c .before .is-given .ensures) ∙ c .if1 .left))
 
 pub nodata-spec : {M : Type 1} → statement M
-nodata-spec =
-    tie.close
-    (tie.spec
-    is-given-requires
-    element-copy-out-float-of
-    element-copy-out-float-of-2
-    float-of-requires
-    returns
-    returns-2)
+nodata-spec = tie.close (tie.spec (λ c κs. search needs) (λ c. search needs) (λ c. search needs) (λ c κs. search needs) returns returns-2)
