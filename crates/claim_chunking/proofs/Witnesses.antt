@@ -1,5 +1,6 @@
 -- The conditions of the rule are met: legends of each kind. And the user's conditions are among them. Assumes nothing.
 use mathlib.Core.Path.{_≡_, refl}
+use mathlib.Core.Bool.{true, false}
 use mathlib.Core.List.{[], _∷_}
 use Prim.Native.Nat.{ℕ}
 use lib.Ieee.{Float, inf, binary32, lt, le, add, sub, ofInt, ofBits, isNan}

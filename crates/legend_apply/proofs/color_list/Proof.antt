@@ -16,16 +16,17 @@ range-of-requires : tie.Need-range-of-requires
 range-of-requires c κs = sym (c .before .before .total-range-refusal .ensures) ∙ c .enum-told2 .given .1
 
 paint-requires : tie.Need-paint-requires
-paint-requires c κs =
-    let s4 = c .before .before .before .before in
-    let s6 = s4 .before .before in
-    let s10 = s6 .before .before .before .before in
-    let s14 = s10 .before .before .before .before in
-    let s15 = s14 .before in
-    let s17 = s15 .before .before in
-    let s18 = s17 .before in
-    let l = s18 .args .legend in
-    (stored l (s6 .view-of .ensures) (range-stored l (sym (s17 .total-range-refusal .ensures) ∙ s15 .enum-told2 .given .1)), search needs)
+paint-requires c κs = (
+  let s4 = c .before .before .before .before in
+      let s6 = s4 .before .before in
+      let s10 = s6 .before .before .before .before in
+      let s14 = s10 .before .before .before .before in
+      let s15 = s14 .before in
+      let s17 = s15 .before .before in
+      let l = s17 .before .args .legend in
+      stored l (s6 .view-of .ensures) (range-stored l (sym (s17 .total-range-refusal .ensures) ∙ s15 .enum-told2 .given .1)),
+  search needs,
+)
 
 returns-2 : tie.Need-returns-2
 unfolding painted
