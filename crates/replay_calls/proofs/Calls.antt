@@ -13,7 +13,7 @@ use Rattle.lists.specs.Lanes.{Lanes}
 use Rattle.lists.proofs.Tabulated.{tabulated}
 use Rattle.lookup.specs.declared.Entry.{Entry}
 use Rattle.lookup.specs.Entries.{entryColor}
-use Rattle.replay_rows.specs.Values.{atMost}
+use Rattle.words.specs.Values.{atMost}
 use Rattle.replay_calls.specs.Rows.{lookedUp}
 
 at-most-40 : (word : ℕ) → atMost word 40 ≤ 40

@@ -7,37 +7,27 @@ use lib.IntN.{ℤ, pos}
 use lib.ListN.{getD}
 use mir.Val.{boolByte}
 use Rattle.lists.specs.Tabulate.{tabulate}
-use Rattle.colormapper.specs.declared.OptionalColor.{OptionalColor}
-use Rattle.colormapper.specs.declared.OptionalColor.the-variants.{Given, Absent}
 use Rattle.colormapper.specs.declared.MappingConfig.{MappingConfig}
-use Rattle.colormapper.specs.Settings.{orElse}
+use Rattle.colormapper.specs.Settings.{orElse, givenFlag}
 use Rattle.banded_columns.specs.declared.LegendBand.{LegendBand}
 use Rattle.banded.specs.declared.Banded.{Banded}
 use Rattle.catgegoric.specs.declared.CategoricNumeric.{CategoricNumeric}
 use Rattle.legend.specs.declared.LegendKind.{LegendKind}
 use Rattle.legend.specs.declared.LegendKind.the-variants as kind
 use Rattle.legend.specs.declared.Legend.{Legend}
-use Rattle.replay_rows.specs.Values.{bitsOf, lowOf}
+use Rattle.legend.specs.Record.{kindNumber}
+use Rattle.words.specs.Values.{bitsOf, lowOf}
 use Rattle.replay_rows.specs.Parts.{putAt}
 
 -- ---- ten words
-abbrev pub kindWord : LegendKind → ℕ
-kindWord kind.Linear = 0
-kindWord kind.Banded = 1
-kindWord kind.CategoricNumeric = 2
-
-abbrev pub givenWord : OptionalColor → ℕ
-givenWord (Given color) = 1
-givenWord Absent = 0
-
 -- the flags of a row's settings
 unfoldable pub flagsWord : MappingConfig → ℕ
-flagsWord config = givenWord (config .«out_of_range_low_color») + 2 * givenWord (config .«out_of_range_high_color») + 4 * boolByte (config .«zero_is_nodata»)
+flagsWord config = givenFlag (config .«out_of_range_low_color») + 2 * givenFlag (config .«out_of_range_high_color») + 4 * boolByte (config .«zero_is_nodata»)
 
 unfoldable pub headWords : Legend → List ℕ
 headWords l =
     let config = l .«mapping_config» in
-    kindWord (l .kind)
+    kindNumber (l .kind)
     ∷ config .«nodata_color»
     ∷ flagsWord config
     ∷ orElse (config .«out_of_range_low_color») 0

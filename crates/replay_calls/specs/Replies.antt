@@ -8,7 +8,7 @@ use Rattle.refusal.specs.declared.Answer.{Answer}
 use Rattle.refusal.specs.Table.{numberOf, answerNumber, answerIndex}
 use Rattle.legend_range.specs.declared.TotalRange.{TotalRange}
 use Rattle.legend_range.specs.declared.TotalRange.the-variants.{Range, Refused}
-use Rattle.replay_rows.specs.Values.{bitsOf}
+use Rattle.words.specs.Values.{bitsOf}
 
 -- the index and 1, or 0
 abbrev pub indexWord : Index → ℕ

@@ -16,7 +16,7 @@ use Rattle.color.specs.Hex.{hexColor}
 use Rattle.palettes.specs.Asked.{paletteOf}
 use Rattle.lookup.specs.declared.Entry.{Entry}
 use Rattle.lookup.specs.Entries.{entryColor, plainEntry, laneEntry}
-use Rattle.replay_rows.specs.Values.{floatOf, lowOf, highOf, atMost}
+use Rattle.words.specs.Values.{floatOf, lowOf, highOf, atMost}
 use Rattle.replay_rows.specs.Parts.{valuesAt, wordsAt, putAt}
 use Rattle.replay_legends.specs.Asked.{rampOf}
 use Rattle.replay_calls.specs.Replies.{withAnswer}

@@ -9,7 +9,6 @@ use color::HexColor;
 use refusal::Answer;
 use replay_rows::part;
 use replay_rows::place;
-use replay_rows::value;
 ghost use mathlib.Core.Path.{_≡_};
 ghost use Rattle.replay_calls.specs.Rows.{paletteRow, withHex, hexRow, lookupRow, wholeLow, wholeHigh, wholeThere, truncatedBy, truncatedRow};
 
@@ -18,11 +17,11 @@ ghost use Rattle.replay_calls.specs.Rows.{paletteRow, withHex, hexRow, l
 pub fn palette(row: &[u32; 1680]) -> [u32; 1680]
     ensures { λ r. ⌜ r ≡ paletteRow (now (row .entry)) ⌝ }
 {
-    let made = palettes::palette_of(value::wide(row[place::SOURCE]));
+    let made = palettes::palette_of(words::wide(row[place::SOURCE]));
     let colors = made.colors;
     let answer = made.answer;
     let mut answered = reply::with_answer(part::asked(row), answer);
-    answered[place::RANGE] = value::count_word(made.count);
+    answered[place::RANGE] = words::count_word(made.count);
     part::put(answered, place::PLAIN, &colors)
 }
 
@@ -45,7 +44,7 @@ pub fn hex(row: &[u32; 1680]) -> [u32; 1680]
     ensures { λ r. ⌜ r ≡ hexRow (now (row .entry)) ⌝ }
 {
     let text = part::bytes(row, place::NUMBERS);
-    let count = value::at_most(row[place::COUNT], 40);
+    let count = words::at_most(row[place::COUNT], 40);
     let color = Color::from_hex_string(&text[..count]);
     with_hex(part::asked(row), color)
 }
@@ -74,7 +73,7 @@ fn whole_low(sample: Truncated) -> u32
     ensures { λ r. ⌜ r ≡ wholeLow sample ⌝ }
 {
     match sample {
-        Truncated::Whole(key) => value::low(key),
+        Truncated::Whole(key) => words::low(key),
         Truncated::Outside => 0,
     }
 }
@@ -83,7 +82,7 @@ fn whole_high(sample: Truncated) -> u32
     ensures { λ r. ⌜ r ≡ wholeHigh sample ⌝ }
 {
     match sample {
-        Truncated::Whole(key) => value::high(key),
+        Truncated::Whole(key) => words::high(key),
         Truncated::Outside => 0,
     }
 }

@@ -7,25 +7,15 @@ use legend::Legend;
 use legend::LegendKind;
 use replay_rows::part;
 use replay_rows::place;
-use replay_rows::value;
 ghost use mathlib.Core.Path.{_≡_};
 ghost use Prim.Native.Nat.{_≤_};
-ghost use Rattle.replay_calls.specs.Records.{kindWord, givenWord, flagsWord, headWords, floatWords, keyWords, withBands, withCategories, withRecord};
+ghost use Rattle.colormapper.specs.Settings.{givenFlag};
+ghost use Rattle.replay_calls.specs.Records.{flagsWord, headWords, floatWords, keyWords, withBands, withCategories, withRecord};
 
 // ---- ten words
 
-fn kind_word(kind: LegendKind) -> u32
-    ensures { λ r. ⌜ r ≡ kindWord kind ⌝ }
-{
-    match kind {
-        LegendKind::Linear => 0,
-        LegendKind::Banded => 1,
-        LegendKind::CategoricNumeric => 2,
-    }
-}
-
 fn given_word(color: OptionalColor) -> u32
-    ensures { λ r. ⌜ (r ≡ givenWord color) × (r ≤ 1) ⌝ }
+    ensures { λ r. ⌜ (r ≡ givenFlag color) × (r ≤ 1) ⌝ }
 {
     match color {
         OptionalColor::Given(_) => 1,
@@ -54,16 +44,16 @@ fn head_words(legend: Legend) -> [u32; 10]
     let low_color = config.out_of_range_low_color;
     let high_color = config.out_of_range_high_color;
     let mut words = [0u32; 10];
-    words[0] = kind_word(kind);
+    words[0] = kind.number();
     words[1] = config.nodata_color;
     words[2] = flags_word(config);
     words[3] = colormapper::unwrap_or(low_color, 0);
     words[4] = colormapper::unwrap_or(high_color, 0);
-    words[5] = value::bits(linear.start);
-    words[6] = value::bits(linear.end);
-    words[7] = value::count_word(banded.count);
-    words[8] = value::count_word(categoric.count);
-    words[9] = value::count_word(categoric.lookup_count);
+    words[5] = words::bits(linear.start);
+    words[6] = words::bits(linear.end);
+    words[7] = words::count_word(banded.count);
+    words[8] = words::count_word(categoric.count);
+    words[9] = words::count_word(categoric.lookup_count);
     words
 }
 
@@ -75,7 +65,7 @@ fn float_words(floats: [f32; 64]) -> [u32; 64]
     let mut words = [0u32; 64];
     let mut i: usize = 0;
     while i < 64 {
-        words[i] = value::bits(floats[i]);
+        words[i] = words::bits(floats[i]);
         i += 1;
     }
     words
@@ -87,7 +77,7 @@ fn key_words(keys: [i64; 256]) -> [u32; 256]
     let mut words = [0u32; 256];
     let mut i: usize = 0;
     while i < 256 {
-        words[i] = value::low(keys[i]);
+        words[i] = words::low(keys[i]);
         i += 1;
     }
     words

@@ -3,7 +3,6 @@ use legend_range::TotalRange;
 use refusal::Answer;
 use refusal::Index;
 use replay_rows::place;
-use replay_rows::value;
 ghost use mathlib.Core.Path.{_≡_};
 ghost use Rattle.replay_calls.specs.Replies.{indexWord, withAnswer, withRange};
 
@@ -33,8 +32,8 @@ pub fn with_range(row: [u32; 1680], range: TotalRange) -> [u32; 1680]
     let mut result = row;
     match range {
         TotalRange::Range(values) => {
-            result[place::RANGE] = value::bits(values.start);
-            result[place::RANGE + 1] = value::bits(values.end);
+            result[place::RANGE] = words::bits(values.start);
+            result[place::RANGE + 1] = words::bits(values.end);
         }
         TotalRange::Refused(why) => {
             result[place::RANGE] = why.number();

@@ -33,7 +33,7 @@ use Rattle.banded.specs.declared.Banded.{Banded}
 use Rattle.catgegoric.specs.declared.CategoricNumeric.{CategoricNumeric}
 use Rattle.legend.specs.declared.Legend.{Legend}
 use Rattle.legend.specs.Record.{linearLegend, bandedLegend, categoricLegend}
-use Rattle.replay_rows.specs.Values.{wholeOf, atMost}
+use Rattle.words.specs.Values.{wholeOf, atMost}
 use Rattle.replay_rows.specs.Parts.{valuesAt, wordsAt}
 use Rattle.replay_legends.specs.Lists.{listOf, rowKeys, rowRange, rowRanges, rowBand}
 use Rattle.replay_legends.specs.Asked.{optionalOf, rowSettings, bySource, rampOf, cmapOf, startOf, endOf, linearOf, equalBandsOf, manualRangesOf}

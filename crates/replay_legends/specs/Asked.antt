@@ -23,7 +23,7 @@ use Rattle.catgegoric.specs.Made.{forValues, forValuesFromRamp, forValueRange, 
 use Rattle.legend.specs.Record.{linearLegend, bandedLegend, categoricLegend}
 use Rattle.legend_builders.specs.declared.MadeLegend.{MadeLegend}
 use Rattle.legend_builders.specs.Building.{linearWithSettings, bandedWithSettings, categoricWithSettings}
-use Rattle.replay_rows.specs.Values.{floatOf, wholeOf, atMost}
+use Rattle.words.specs.Values.{floatOf, wholeOf, atMost}
 use Rattle.replay_rows.specs.Parts.{valuesAt, wordsAt}
 use Rattle.replay_legends.specs.Lists.{listOf, rowKeys, rowRanges, rowBand}
 

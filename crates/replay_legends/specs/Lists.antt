@@ -6,7 +6,7 @@ use lib.ListN.{getD, take}
 use Rattle.floats.specs.RampIndex.{nought}
 use Rattle.lists.specs.Padded.{padded}
 use Rattle.lists.specs.Tabulate.{tabulate}
-use Rattle.replay_rows.specs.Values.{floatOf, wholeOf, atMost}
+use Rattle.words.specs.Values.{floatOf, wholeOf, atMost}
 use Rattle.replay_rows.specs.Parts.{valuesAt, wordsAt}
 use Rattle.banded_columns.specs.declared.LegendBand.{LegendBand}
 use Rattle.banded_lists.specs.declared.ValueRange.{ValueRange}

@@ -13,7 +13,6 @@ use linear::Linear;
 use refusal::Answer;
 use replay_rows::part;
 use replay_rows::place;
-use replay_rows::value;
 ghost use mathlib.Core.Path.{_≡_};
 ghost use Rattle.replay_legends.specs.Asked.{optionalOf, rowSettings, rampOf, cmapOf, linearOf, equalBandsOf, manualRangesOf, categoriesOf};
 ghost use Rattle.replay_legends.specs.Asked.{categoryRangeOf, bandsGiven, linearStored, categoriesStored, rowLegend};
@@ -47,17 +46,17 @@ pub fn ramp(row: &[u32; 1680]) -> MadeRamp
     ensures { λ r. ⌜ r ≡ rampOf (now (row .entry)) ⌝ }
 {
     if row[place::SOURCE] < place::FROM_LIST {
-        return colormap::create_for_preset(value::wide(row[place::SOURCE]));
+        return colormap::create_for_preset(words::wide(row[place::SOURCE]));
     }
     let list = part::words_at(row, place::COLORS);
-    let count = value::at_most(row[place::LIST_COUNT], 16);
+    let count = words::at_most(row[place::LIST_COUNT], 16);
     colormap::create(&list[..count])
 }
 
 fn palette_ramp(row: &[u32; 1680]) -> ProcessedColorMap
     ensures { λ r. ⌜ r .cmap ≡ cmapOf (now (row .entry)) ⌝ }
 {
-    let made = colormap::create_for_preset(value::wide(row[place::SOURCE]));
+    let made = colormap::create_for_preset(words::wide(row[place::SOURCE]));
     made.ramp
 }
 
@@ -66,28 +65,28 @@ fn palette_ramp(row: &[u32; 1680]) -> ProcessedColorMap
 fn linear(row: &[u32; 1680], config: MappingConfig) -> MadeLegend
     ensures { λ r. ⌜ r ≡ linearOf (now (row .entry)) config ⌝ }
 {
-    let start = value::float(row[place::NUMBERS]);
-    let end = value::float(row[place::NUMBERS + 1]);
+    let start = words::float(row[place::NUMBERS]);
+    let end = words::float(row[place::NUMBERS + 1]);
     if row[place::SOURCE] < place::FROM_LIST {
         return legend_builders::create_linear_from_ramp(palette_ramp(row), start, end, config);
     }
     let list = part::words_at(row, place::COLORS);
-    let count = value::at_most(row[place::LIST_COUNT], 16);
+    let count = words::at_most(row[place::LIST_COUNT], 16);
     legend_builders::create_linear(&list[..count], start, end, config)
 }
 
 fn equal_bands(row: &[u32; 1680], config: MappingConfig) -> MadeLegend
     ensures { λ r. ⌜ r ≡ equalBandsOf (now (row .entry)) config ⌝ }
 {
-    let start = value::float(row[place::NUMBERS]);
-    let end = value::float(row[place::NUMBERS + 1]);
-    let bands = value::wide(row[place::COUNT]);
+    let start = words::float(row[place::NUMBERS]);
+    let end = words::float(row[place::NUMBERS + 1]);
+    let bands = words::wide(row[place::COUNT]);
     if row[place::SOURCE] < place::FROM_LIST {
         let ramp = palette_ramp(row);
         return legend_builders::create_banded_from_ramp(bands, &ramp.cmap, start, end, config);
     }
     let list = part::words_at(row, place::COLORS);
-    let count = value::at_most(row[place::LIST_COUNT], 16);
+    let count = words::at_most(row[place::LIST_COUNT], 16);
     legend_builders::create_banded(bands, &list[..count], start, end, config)
 }
 
@@ -100,7 +99,7 @@ fn manual_ranges(row: &[u32; 1680], config: MappingConfig) -> MadeLegend
         return legend_builders::create_banded_manual_ranges_from_ramp(&ramp.cmap, values, config);
     }
     let list = part::words_at(row, place::COLORS);
-    let count = value::at_most(row[place::LIST_COUNT], 16);
+    let count = words::at_most(row[place::LIST_COUNT], 16);
     legend_builders::create_banded_manual_ranges(&list[..count], values, config)
 }
 
@@ -108,7 +107,7 @@ fn categories(row: &[u32; 1680], config: MappingConfig) -> MadeLegend
     ensures { λ r. ⌜ r ≡ categoriesOf (now (row .entry)) config ⌝ }
 {
     let keys = part::keys(row);
-    let key_count = value::at_most(row[place::COUNT], 16);
+    let key_count = words::at_most(row[place::COUNT], 16);
     if row[place::SOURCE] < place::FROM_LIST {
         let ramp = palette_ramp(row);
         return legend_builders::create_categoric_for_value_list_from_ramp(
@@ -118,15 +117,15 @@ fn categories(row: &[u32; 1680], config: MappingConfig) -> MadeLegend
         );
     }
     let list = part::words_at(row, place::COLORS);
-    let count = value::at_most(row[place::LIST_COUNT], 16);
+    let count = words::at_most(row[place::LIST_COUNT], 16);
     legend_builders::create_categoric_for_value_list(&list[..count], &keys[..key_count], config)
 }
 
 fn category_range(row: &[u32; 1680], config: MappingConfig) -> MadeLegend
     ensures { λ r. ⌜ r ≡ categoryRangeOf (now (row .entry)) config ⌝ }
 {
-    let start = value::key(row[place::NUMBERS]);
-    let end = value::key(row[place::NUMBERS + 1]);
+    let start = words::key(row[place::NUMBERS]);
+    let end = words::key(row[place::NUMBERS + 1]);
     if row[place::SOURCE] < place::FROM_LIST {
         let ramp = palette_ramp(row);
         return legend_builders::create_categoric_for_value_range_from_ramp(
@@ -137,7 +136,7 @@ fn category_range(row: &[u32; 1680], config: MappingConfig) -> MadeLegend
         );
     }
     let list = part::words_at(row, place::COLORS);
-    let count = value::at_most(row[place::LIST_COUNT], 16);
+    let count = words::at_most(row[place::LIST_COUNT], 16);
     legend_builders::create_categoric_for_value_range(&list[..count], start, end, config)
 }
 
@@ -148,7 +147,7 @@ fn bands_given(row: &[u32; 1680], config: MappingConfig) -> MadeLegend
     ensures { λ r. ⌜ r ≡ bandsGiven (now (row .entry)) config ⌝ }
 {
     let bands = list::bands(row);
-    let count = value::at_most(row[place::COUNT], 16);
+    let count = words::at_most(row[place::COUNT], 16);
     MadeLegend {
         answer: Answer::Done,
         legend: Legend::with_banded(Banded { bands, count }, config),
@@ -161,8 +160,8 @@ fn linear_stored(row: &[u32; 1680], config: MappingConfig) -> MadeLegend
 {
     let ramp = palette_ramp(row);
     let cmap = ramp.cmap;
-    let start = value::float(row[place::NUMBERS]);
-    let end = value::float(row[place::NUMBERS + 1]);
+    let start = words::float(row[place::NUMBERS]);
+    let end = words::float(row[place::NUMBERS + 1]);
     MadeLegend {
         answer: Answer::Done,
         legend: Legend::with_linear(Linear { start, end, cmap }, config),
@@ -179,9 +178,9 @@ fn categories_stored(row: &[u32; 1680], config: MappingConfig) -> MadeLegend
     let categoric = CategoricNumeric {
         keys,
         colors,
-        count: value::at_most(row[place::COUNT], 16),
+        count: words::at_most(row[place::COUNT], 16),
         lookup,
-        lookup_count: value::at_most(row[place::TABLE_COUNT], 16),
+        lookup_count: words::at_most(row[place::TABLE_COUNT], 16),
     };
     MadeLegend {
         answer: Answer::Done,

@@ -3,13 +3,12 @@ use banded_columns::LegendBand;
 use banded_lists::ValueRange;
 use banded_lists::ValueRanges;
 use replay_rows::place;
-use replay_rows::value;
 ghost use mathlib.Core.Path.{_≡_};
 ghost use Prim.Native.Nat.{_<_};
 ghost use lib.IntN.{pos};
 ghost use Rattle.lists.specs.Padded.{padded};
 ghost use Rattle.lists.specs.Tabulate.{tabulate};
-ghost use Rattle.replay_rows.specs.Values.{wholeOf};
+ghost use Rattle.words.specs.Values.{wholeOf};
 ghost use Rattle.replay_rows.specs.Parts.{valuesAt, wordsAt};
 ghost use Rattle.banded_lists.specs.Padded.{paddedBands};
 ghost use Rattle.replay_legends.specs.Lists.{rowRange, rowRanges, rowBand};
@@ -19,8 +18,8 @@ fn range(row: &[u32; 1680], i: usize) -> ValueRange
     ensures { λ r. ⌜ r ≡ rowRange (now (row .entry)) i ⌝ }
 {
     ValueRange {
-        start: value::float(row[place::NUMBERS + 2 * i]),
-        end: value::float(row[place::NUMBERS + 1 + 2 * i]),
+        start: words::float(row[place::NUMBERS + 2 * i]),
+        end: words::float(row[place::NUMBERS + 1 + 2 * i]),
     }
 }
 
@@ -39,7 +38,7 @@ pub fn ranges(row: &[u32; 1680]) -> ValueRanges
     }
     ValueRanges {
         ranges,
-        count: value::at_most(row[place::COUNT], 16),
+        count: words::at_most(row[place::COUNT], 16),
     }
 }
 
@@ -78,7 +77,7 @@ pub fn keys(row: &[u32; 1680]) -> [i64; 256]
     let mut keys = [0i64; 256];
     let mut i: usize = 0;
     while i < 16 {
-        keys[i] = value::key(row[place::NUMBERS + i]);
+        keys[i] = words::key(row[place::NUMBERS + i]);
         i += 1;
     }
     keys

@@ -23,7 +23,7 @@ use Rattle.legend.specs.Painters.{painter}
 use Rattle.legend_view.specs.declared.View.{View}
 use Rattle.legend_view.specs.Borrowed.{borrowedLegend, viewOf}
 use Rattle.legend_pixel.specs.Values.{colorForValue}
-use Rattle.replay_rows.specs.Values.{shortOf, atMost}
+use Rattle.words.specs.Values.{shortOf, atMost}
 use Rattle.replay_rows.specs.Parts.{valuesAt}
 use Rattle.replay_paintings.specs.declared.LaneWords.{LaneWords}
 use Rattle.replay_paintings.specs.declared.Paintings.{Paintings}

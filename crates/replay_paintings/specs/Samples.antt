@@ -8,7 +8,7 @@ use lib.ListN.{getD, take}
 use Rattle.cast.specs.declared.Nodata.{Nodata}
 use Rattle.cast.specs.declared.Nodata.the-variants.{Value, Absent}
 use Rattle.cast.specs.Samples.{ofU8, ofI16}
-use Rattle.replay_rows.specs.Values.{floatOf, shortOf, atMost}
+use Rattle.words.specs.Values.{floatOf, shortOf, atMost}
 use Rattle.replay_rows.specs.Parts.{valuesAt}
 
 abbrev pub isGiven : (row : List ℕ) → Bool

@@ -11,7 +11,6 @@ use legend_pixel::PixelColor;
 use legend_view::View;
 use replay_rows::part;
 use replay_rows::place;
-use replay_rows::value;
 ghost use mathlib.Core.Path.{_≡_};
 ghost use Prim.Native.Nat.{_+_, _≤_};
 ghost use lib.ListN.{take};
@@ -118,7 +117,7 @@ pub fn painted(legend: Legend, row: &[u32; 1680]) -> Paintings
     let lookup = categoric.lookup;
     let view = legend_view::view_of(legend);
     let samples = sample::floats(row);
-    let count = value::at_most(row[place::SAMPLE_COUNT], 40);
+    let count = words::at_most(row[place::SAMPLE_COUNT], 40);
     let none = sample::nodata(row);
     let values = values(view, &cmap, &keys, &colors, &lookup, samples, count, none);
     let plain = plain(view, &cmap, &keys, &colors, &lookup, row, count, none);

@@ -1,7 +1,6 @@
 // The samples of a row and its nodata value, as f32.
 use cast::Nodata;
 use replay_rows::place;
-use replay_rows::value;
 ghost use mathlib.Core.Path.{_≡_};
 ghost use Rattle.replay_rows.specs.Parts.{valuesAt};
 ghost use Rattle.replay_paintings.specs.Samples.{isGiven, sampleOf, sampleType, nodataOf};
@@ -18,9 +17,9 @@ fn float_of(number: u32, word: u32) -> f32
     ensures { λ r. ⌜ r ≡ sampleOf number word ⌝ }
 {
     match number {
-        0 => value::float(word),
-        1 => cast::u8_to_f32(value::byte(word)),
-        _ => cast::i16_to_f32(value::short(word)),
+        0 => words::float(word),
+        1 => cast::u8_to_f32(words::byte(word)),
+        _ => cast::i16_to_f32(words::short(word)),
     }
 }
 

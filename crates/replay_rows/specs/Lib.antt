@@ -1,3 +1,2 @@
--- What the contracts cite: the values of words, and the parts of a row.
-pub mod Values
+-- What the contracts cite: the parts of a row.
 pub mod Parts

@@ -1,12 +1,11 @@
 // A row's words, the parts of a row as values, parts put into a row, and two rows compared.
 use crate::place;
-use crate::value;
 ghost use mathlib.Core.Path.{_≡_};
 ghost use Prim.Native.Nat.{_+_, _%_, _≤_};
 ghost use lib.ListN.{length};
 ghost use Rattle.lists.specs.Padded.{padded};
 ghost use Rattle.lists.specs.Tabulate.{tabulate};
-ghost use Rattle.replay_rows.specs.Values.{wordAt, floatOf, shortOf, wholeOf};
+ghost use Rattle.words.specs.Values.{wordAt, floatOf, shortOf, wholeOf};
 ghost use Rattle.replay_rows.specs.Parts.{wordsAt, valuesAt, putAt, firstDifference};
 
 // ---- a row
@@ -18,7 +17,7 @@ pub fn words_of(bytes: &[u8; 6720]) -> [u32; 1680]
     let mut words = [0u32; 1680];
     let mut i: usize = 0;
     while i < 1680 {
-        words[i] = value::word(
+        words[i] = words::word(
             bytes[4 * i],
             bytes[4 * i + 1],
             bytes[4 * i + 2],
@@ -65,7 +64,7 @@ pub fn fractions(row: &[u32; 1680]) -> [f32; 16]
     let mut floats = [0.0f32; 16];
     let mut i: usize = 0;
     while i < 16 {
-        floats[i] = value::float(row[place::SAMPLES + i]);
+        floats[i] = words::float(row[place::SAMPLES + i]);
         i += 1;
     }
     floats
@@ -78,7 +77,7 @@ pub fn keys(row: &[u32; 1680]) -> [i64; 16]
     let mut keys = [0i64; 16];
     let mut i: usize = 0;
     while i < 16 {
-        keys[i] = value::key(row[place::NUMBERS + i]);
+        keys[i] = words::key(row[place::NUMBERS + i]);
         i += 1;
     }
     keys
@@ -91,7 +90,7 @@ pub fn floats(row: &[u32; 1680]) -> [f32; 40]
     let mut floats = [0.0f32; 40];
     let mut i: usize = 0;
     while i < 40 {
-        floats[i] = value::float(row[place::SAMPLES + i]);
+        floats[i] = words::float(row[place::SAMPLES + i]);
         i += 1;
     }
     floats
@@ -103,7 +102,7 @@ pub fn shorts(row: &[u32; 1680]) -> [i16; 40]
     let mut shorts = [0i16; 40];
     let mut i: usize = 0;
     while i < 40 {
-        shorts[i] = value::short(row[place::SAMPLES + i]);
+        shorts[i] = words::short(row[place::SAMPLES + i]);
         i += 1;
     }
     shorts
@@ -116,7 +115,7 @@ pub fn bytes(row: &[u32; 1680], from: usize) -> [u8; 40]
     let mut bytes = [0u8; 40];
     let mut i: usize = 0;
     while i < 40 {
-        bytes[i] = value::byte(row[from + i]);
+        bytes[i] = words::byte(row[from + i]);
         i += 1;
     }
     bytes

@@ -3,7 +3,6 @@ mod tally;
 mod tell;
 
 use replay_rows::part;
-use replay_rows::value;
 ghost use mathlib.Core.Path.{_≡_};
 ghost use lib.ListN.{getD};
 ghost use Rattle.run_replay.specs.Tally.{tallied, rowKind, differing};
@@ -12,7 +11,7 @@ ghost use Rattle.run_replay.specs.Tally.{tallied, rowKind, differing};
 fn read_word(fd: i32) -> u32 {
     let mut bytes = [0u8; 4];
     io::read_full(fd, &mut bytes);
-    value::word(bytes[0], bytes[1], bytes[2], bytes[3])
+    words::word(bytes[0], bytes[1], bytes[2], bytes[3])
 }
 
 // Compares a row with what we make of it.
@@ -32,7 +31,7 @@ fn compare(number: u64, row: &[u32; 1680], rows: &mut [u64; 13], differ: &mut [u
 // Reads a row: how many words are stored, and they; the others are 0. One that is too long, or that the file ends within,
 // counts as malformed, and none is read after it.
 fn replay_row(fd: i32, number: u64, rows: &mut [u64; 13], differ: &mut [u64; 13]) -> bool {
-    let count = value::wide(read_word(fd));
+    let count = words::wide(read_word(fd));
     let mut bytes = [0u8; 6720];
     if count > 1680 {
         tally::note(12, false, rows, differ);

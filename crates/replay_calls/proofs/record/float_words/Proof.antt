@@ -5,7 +5,7 @@ use Prim.Native.Nat.{_-_}
 use lib.ListN.{getD}
 use lib.Ieee.{nan}
 use Rattle.lists.proofs.Filling.{Filling, filling-start, filling-turn, filled}
-use Rattle.replay_rows.specs.Values.{bitsOf}
+use Rattle.words.specs.Values.{bitsOf}
 use Rattle.replay_calls.specs.Records.{floatWords}
 use Rattle.replay_calls.proofs.record.float_words.Statement.{statement}
 use Rattle.replay_calls.proofs.record.float_words.Tie as tie

@@ -5,8 +5,8 @@ use borrow.Author.Needs.{needs}
 use Rattle.replay_calls.proofs.record.head_words.Statement.{statement}
 use Rattle.replay_calls.proofs.record.head_words.Tie as tie
 
-kind-word-requires : tie.Need-kind-word-requires
-kind-word-requires c κs = search needs
+number-requires : tie.Need-number-requires
+number-requires c κs = search needs
 
 array-write-words : tie.Need-array-write-words
 array-write-words c = search needs
@@ -72,7 +72,7 @@ returns c =
     let s7 = s6 .before in
     let s8 = s7 .before in
     cc (
-      s8 .kind-word .ensures,
+      s8 .number .ensures,
       s7 .flags-word .ensures,
       s6 .unwrap-or .ensures,
       s5 .unwrap-or2 .ensures,
@@ -87,7 +87,7 @@ pub head-words-spec : {M : Type 1} → statement M
 head-words-spec =
     tie.close
     (tie.spec
-    kind-word-requires
+    number-requires
     array-write-words
     array-write-words-2
     flags-word-requires

@@ -6,7 +6,7 @@ use mathlib.Core.Path.{ap, _∙_}
 use lib.ListN.{getD}
 use lib.IntN.{pos}
 use Rattle.lists.proofs.Filling.{Filling, filling-start, filling-turn, filled}
-use Rattle.replay_rows.specs.Values.{lowOf}
+use Rattle.words.specs.Values.{lowOf}
 use Rattle.replay_calls.specs.Records.{keyWords}
 use mir.Syntax.{w64}
 use mir.ValLaws.{toZ-ofZ}

@@ -5,7 +5,7 @@ use Prim.Native.Nat.{_+_, _-_}
 use lib.ListN.{getD}
 use Rattle.lists.proofs.Padding.{Storing, storing-start, storing-turn, storing-end}
 use lib.IntN.{pos}
-use Rattle.replay_rows.specs.Values.{wholeOf}
+use Rattle.words.specs.Values.{wholeOf}
 use Rattle.replay_legends.proofs.list.keys.Statement.{statement}
 use Rattle.replay_legends.proofs.list.keys.Tie as tie
 

@@ -5,7 +5,7 @@ use Prim.Native.Nat.{_+_, _-_}
 use lib.ListN.{getD}
 use lib.Ieee.{nan}
 use Rattle.lists.proofs.Filling.{Filling, filling-start, filling-turn, filled}
-use Rattle.replay_rows.specs.Values.{floatOf}
+use Rattle.words.specs.Values.{floatOf}
 use Rattle.replay_rows.proofs.part.fractions.Statement.{statement}
 use Rattle.replay_rows.proofs.part.fractions.Tie as tie
 

@@ -5,7 +5,7 @@ use Prim.Native.Nat.{_+_, _-_}
 use lib.ListN.{getD}
 use lib.IntN.{pos}
 use Rattle.lists.proofs.Filling.{Filling, filling-start, filling-turn, filled}
-use Rattle.replay_rows.specs.Values.{shortOf}
+use Rattle.words.specs.Values.{shortOf}
 use Rattle.replay_rows.proofs.part.shorts.Statement.{statement}
 use Rattle.replay_rows.proofs.part.shorts.Tie as tie
 

@@ -3,7 +3,7 @@ use borrow.Author.Needs.{needs}
 use native.Mathlib.Omega.{arith}
 use Prim.Native.Nat.{_-_}
 use Rattle.lists.proofs.Filling.{Filling, filling-start, filling-turn, filled}
-use Rattle.replay_rows.specs.Values.{wordAt}
+use Rattle.words.specs.Values.{wordAt}
 use Rattle.replay_rows.proofs.part.words_of.Statement.{statement}
 use Rattle.replay_rows.proofs.part.words_of.Tie as tie
 
