@@ -24,7 +24,7 @@ use Rattle.banded_rule.specs.forms.Columns.{bandAt, fromColumns}
 use Rattle.banded_lanes.specs.forms.Scanning.{Scanned}
 use Rattle.banded_rule.proofs.Forms.{drop-end}
 use Rattle.banded_lanes.proofs.LaneForms.{lane-none, lane-columns}
-use Rattle.banded_lanes.proofs.Entries.{map-rule}
+use Rattle.lists.proofs.Entries.{map-rule}
 use Rattle.banded_lanes.proofs.Chunk.{values-kept}
 
 module _ (starts ends : List Float) (colors : List ℕ) (count : ℕ) (u : UnmappableColors) (n : ℕ) (value : List Float) where

@@ -16,7 +16,7 @@ use Rattle.banded_rule.specs.PlainRule.{plainRule, plainColor}
 use Rattle.banded_lanes.specs.Edges.{Lane, edged}
 use Rattle.banded_lanes.specs.LaneRule.{started, over, allInside, Sweep, swept, chunkColors, laneColors}
 use Rattle.banded_lanes.specs.Conditions.{LawfulBands}
-use Rattle.banded_lanes.proofs.Entries.{map-same, map-at}
+use Rattle.lists.proofs.Entries.{map-same, map-at}
 use Rattle.banded_lanes.proofs.SampleLaw.{laneIn, held, edges-law, early-law}
 
 -- ---- a chunk has as many colours as values

@@ -1,4 +1,3 @@
-pub mod Entries
 pub mod Updating
 pub mod LaneForms
 pub mod Chunk

@@ -24,7 +24,7 @@ use Rattle.banded_lanes.specs.Edges.{Lane}
 use Rattle.banded_lanes.specs.LaneRule.{started, over, allInside, Sweep, swept}
 use Rattle.banded_rule.specs.forms.Columns.{bandAt, fromColumns}
 use Rattle.banded_lanes.specs.forms.Scanning.{allBelow, Scanned}
-use Rattle.banded_lanes.proofs.Entries.{same-rule, front, map-rule}
+use Rattle.lists.proofs.Entries.{same-rule, front, map-rule}
 use Rattle.banded_rule.proofs.Forms.{drop-band, drop-end}
 use Rattle.banded_lanes.proofs.Chunk.{below-same, all-inside}
 use Rattle.banded_search.specs.forms.Indices.{bandIndex, heldAt, colorAt, BandIndices}

@@ -6,13 +6,14 @@ use lib.Dec.{ltb, eqb}
 use Rattle.colormapper.specs.declared.OptionalColor.{OptionalColor}
 use Rattle.colormapper.specs.declared.OptionalColor.the-variants.{Given, Absent}
 use Rattle.colormapper.specs.declared.MappingConfig.{MappingConfig}
-use Rattle.colormapper.specs.Settings.{orElse}
+use Rattle.colormapper.specs.Settings.{orElse, colorIf, givenFlag, flagOf}
 use Rattle.legend.specs.declared.LegendKind.{LegendKind}
 use Rattle.legend.specs.declared.LegendKind.the-variants.{Linear, Banded, CategoricNumeric}
 use Rattle.legend.specs.declared.Legend.{Legend}
 use Rattle.refusal.specs.declared.Answer.the-variants.{Done}
-use Rattle.c_types.specs.Settings.{colorIf, flagOf, givenFlag, settingsFromC, settingsToC}
-use Rattle.c_records.specs.Records.{kindFromC, kindToC, legendFromC, recordToC}
+use Rattle.c_types.specs.Settings.{settingsFromC, settingsToC}
+use Rattle.c_records.specs.Records.{legendFromC, recordToC}
+use Rattle.legend.specs.Record.{kindNumbered, kindNumber}
 use Rattle.c_types.specs.Refusals.{settingsRefusal, legendRefusal}
 
 color-back : (o : OptionalColor) → colorIf (givenFlag o) (orElse o 0) ≡ o
@@ -23,7 +24,7 @@ flag-back : (b : Bool) → eqb (flagOf b) 1 ≡ b
 flag-back true = refl
 flag-back false = refl
 
-kind-back : (k : LegendKind) → kindFromC (kindToC k) ≡ k
+kind-back : (k : LegendKind) → kindNumbered (kindNumber k) ≡ k
 kind-back Linear = refl
 kind-back Banded = refl
 kind-back CategoricNumeric = refl
@@ -57,7 +58,7 @@ bool-flag : (b : Bool) → ltb (flagOf b) 2 ≡ true
 bool-flag true = refl
 bool-flag false = refl
 
-kind-known : (k : LegendKind) → ltb 2 (kindToC k) ≡ false
+kind-known : (k : LegendKind) → ltb 2 (kindNumber k) ≡ false
 kind-known Linear = refl
 kind-known Banded = refl
 kind-known CategoricNumeric = refl

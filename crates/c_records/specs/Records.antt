@@ -1,35 +1,21 @@
 -- A legend as C holds it, and the way back; what a builder made. Definitions only.
-use Prim.Native.Nat.{ℕ}
-use mathlib.Core.Bool.{cond}
-use lib.Dec.{eqb}
 use Rattle.refusal.specs.declared.Answer.{Answer}
 use Rattle.refusal.specs.Outcome.{ifDone, firstOf}
-use Rattle.legend.specs.declared.LegendKind.{LegendKind}
-use Rattle.legend.specs.declared.LegendKind.the-variants.{Linear, Banded, CategoricNumeric}
 use Rattle.legend.specs.declared.Legend.{Legend}
 use Rattle.legend_builders.specs.declared.MadeLegend.{MadeLegend}
-use Rattle.legend.specs.Record.{emptyLegend}
+use Rattle.legend.specs.Record.{kindNumbered, kindNumber, emptyLegend}
 use Rattle.c_records.specs.declared.record.LegendRecord.{LegendRecord}
 use Rattle.c_records.specs.declared.record.LegendMade.{LegendMade}
 use Rattle.c_types.specs.Answers.{answerToC}
 use Rattle.c_types.specs.Settings.{settingsFromC, settingsToC}
 
--- 0 linear, 1 banded, 2 categoric; the numbers from 3 on are refused before
-abbrev pub kindFromC : ℕ → LegendKind
-kindFromC n = cond (eqb n 0) Linear (cond (eqb n 1) Banded CategoricNumeric)
-
 unfoldable pub legendFromC : LegendRecord → Legend
 legendFromC r =
-    record { kind = kindFromC (r .kind); linear = r .linear; banded = r .banded; categoric = r .categoric; «mapping_config» = settingsFromC (r .settings) }
-
-abbrev pub kindToC : LegendKind → ℕ
-kindToC Linear = 0
-kindToC Banded = 1
-kindToC CategoricNumeric = 2
+    record { kind = kindNumbered (r .kind); linear = r .linear; banded = r .banded; categoric = r .categoric; «mapping_config» = settingsFromC (r .settings) }
 
 unfoldable pub recordToC : Legend → LegendRecord
 recordToC l = record {
-  kind = kindToC (l .kind);
+  kind = kindNumber (l .kind);
   settings = settingsToC (l .«mapping_config»);
   linear = l .linear;
   banded = l .banded;

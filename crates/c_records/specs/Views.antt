@@ -3,12 +3,12 @@ use Rattle.banded.specs.declared.Banded.{Banded}
 use Rattle.legend_view.specs.declared.View.{View}
 use Rattle.c_types.specs.Settings.{settingsFromC}
 use Rattle.c_records.specs.declared.view.LegendView.{LegendView}
-use Rattle.c_records.specs.Records.{kindFromC}
+use Rattle.legend.specs.Record.{kindNumbered}
 
 unfoldable pub viewFromC : LegendView → Banded → View
 viewFromC h banded =
     record {
-      kind = kindFromC (h .kind);
+      kind = kindNumbered (h .kind);
       start = h .start;
       end = h .end;
       banded = banded;

@@ -11,7 +11,7 @@ use legend_builders::MadeLegend;
 use linear::Linear;
 use refusal::Answer;
 ghost use mathlib.Core.Path.{_≡_};
-ghost use Rattle.c_records.specs.Records.{kindFromC, kindToC, legendFromC, recordToC, madeToC};
+ghost use Rattle.c_records.specs.Records.{legendFromC, recordToC, madeToC};
 
 // The kind is 0 for linear, 1 for banded, 2 for categoric; of the three records that of the kind alone counts.
 #[repr(C)]
@@ -30,19 +30,6 @@ pub struct LegendMade {
     pub legend: LegendRecord,
 }
 
-// A kind that is none of the three has been refused before.
-pub fn kind_from_c(kind: u32) -> LegendKind
-    ensures { λ r. ⌜ r ≡ kindFromC kind ⌝ }
-{
-    if kind == 0 {
-        return LegendKind::Linear;
-    }
-    if kind == 1 {
-        return LegendKind::Banded;
-    }
-    LegendKind::CategoricNumeric
-}
-
 pub fn legend_from_c(stored: LegendRecord) -> Legend
     ensures { λ r. ⌜ r ≡ legendFromC stored ⌝ }
 {
@@ -51,21 +38,11 @@ pub fn legend_from_c(stored: LegendRecord) -> Legend
     let categoric = stored.categoric;
     let given = stored.settings;
     Legend {
-        kind: kind_from_c(stored.kind),
+        kind: LegendKind::from_number(stored.kind),
         linear,
         banded,
         categoric,
         mapping_config: settings::settings_from_c(given),
-    }
-}
-
-fn kind_to_c(kind: LegendKind) -> u32
-    ensures { λ r. ⌜ r ≡ kindToC kind ⌝ }
-{
-    match kind {
-        LegendKind::Linear => 0,
-        LegendKind::Banded => 1,
-        LegendKind::CategoricNumeric => 2,
     }
 }
 
@@ -78,7 +55,7 @@ fn record_to_c(made: Legend) -> LegendRecord
     let categoric = made.categoric;
     let config = made.mapping_config;
     LegendRecord {
-        kind: kind_to_c(kind),
+        kind: kind.number(),
         settings: settings::settings_to_c(config),
         linear,
         banded,

@@ -1,8 +1,8 @@
 // A legend as C lends it: its arrays beside the rest of it.
-use crate::record;
 use banded::Banded;
 use c_types::settings;
 use c_types::settings::LegendSettings;
+use legend::LegendKind;
 use legend_view::View;
 ghost use mathlib.Core.Path.{_≡_};
 ghost use Rattle.c_records.specs.Views.{viewFromC};
@@ -23,7 +23,7 @@ pub fn view_from_c(given: LegendView, banded: Banded) -> View
 {
     let settings = given.settings;
     View {
-        kind: record::kind_from_c(given.kind),
+        kind: LegendKind::from_number(given.kind),
         start: given.start,
         end: given.end,
         banded,

@@ -1,8 +1,7 @@
 // Settings as C passes them.
 use colormapper::MappingConfig;
-use colormapper::OptionalColor;
 ghost use mathlib.Core.Path.{_≡_};
-ghost use Rattle.c_types.specs.Settings.{colorIf, flagOf, givenFlag, settingsFromC, settingsToC};
+ghost use Rattle.c_types.specs.Settings.{settingsFromC, settingsToC};
 
 // The last three are flags, 0 or 1. The low colour counts where `has_low` is 1, the high colour where `has_high` is.
 #[repr(C)]
@@ -20,19 +19,10 @@ pub fn settings_from_c(settings: LegendSettings) -> MappingConfig
 {
     MappingConfig {
         nodata_color: settings.nodata_color,
-        out_of_range_low_color: color_if(settings.has_low, settings.low_color),
-        out_of_range_high_color: color_if(settings.has_high, settings.high_color),
+        out_of_range_low_color: colormapper::color_if(settings.has_low, settings.low_color),
+        out_of_range_high_color: colormapper::color_if(settings.has_high, settings.high_color),
         zero_is_nodata: settings.zero_is_nodata == 1,
     }
-}
-
-fn color_if(given: u32, color: u32) -> OptionalColor
-    ensures { λ r. ⌜ r ≡ colorIf given color ⌝ }
-{
-    if given == 1 {
-        return OptionalColor::Given(color);
-    }
-    OptionalColor::Absent
 }
 
 // The other way: the colour 0 where none is given.
@@ -45,23 +35,8 @@ pub fn settings_to_c(config: MappingConfig) -> LegendSettings
         nodata_color: config.nodata_color,
         low_color: colormapper::unwrap_or(low, 0),
         high_color: colormapper::unwrap_or(high, 0),
-        has_low: given_flag(low),
-        has_high: given_flag(high),
-        zero_is_nodata: flag_of(config.zero_is_nodata),
+        has_low: colormapper::given_flag(low),
+        has_high: colormapper::given_flag(high),
+        zero_is_nodata: colormapper::flag_of(config.zero_is_nodata),
     }
-}
-
-fn given_flag(color: OptionalColor) -> u32
-    ensures { λ r. ⌜ r ≡ givenFlag color ⌝ }
-{
-    match color {
-        OptionalColor::Given(_) => 1,
-        OptionalColor::Absent => 0,
-    }
-}
-
-fn flag_of(set: bool) -> u32
-    ensures { λ r. ⌜ r ≡ flagOf set ⌝ }
-{
-    if set { 1 } else { 0 }
 }

@@ -210,3 +210,22 @@ module _ (keys : List ℤ) (count : ℕ) (long : length keys ≡ 256) (few : cou
   word-written colors words =
       ap₂ (λ (n : ℤ) (x : ℕ). set (written i (take count keys) (take count colors) words) (whole n) x) (sym is) (sym (getD-take count colors i 0 h))
       ∙ sym (ap (λ (m : ℕ). written m (take count keys) (take count colors) words) (add-one i))
+
+-- ---- the table of any keys
+pub size-few : (keys : List ℤ) → tableSize keys ≤ 513
+size-few keys = go (hasTable keys) (size-≤ keys) (not-tabled keys)
+  where
+    go : (t : Bool) → (t ≡ true → tableSize keys ≤ 513) → (t ≡ false → tableSize keys ≡ 0) → tableSize keys ≤ 513
+    go true f g = f refl
+    go false f g = omega (arith, g refl)
+
+pub length-table : (keys : List ℤ) (colors : List ℕ) → length (table keys colors) ≡ tableSize keys
+unfolding table
+length-table keys colors = go (hasTable keys) (not-tabled keys)
+  where
+    words : List ℕ
+    words = written (length keys) keys colors (replicate (tableSize keys) 0)
+
+    go : (t : Bool) → (t ≡ false → tableSize keys ≡ 0) → length (cond t words []) ≡ tableSize keys
+    go true f = length-written keys colors (length keys) (replicate (tableSize keys) 0) ∙ length-replicate (tableSize keys) 0
+    go false f = sym (f refl)

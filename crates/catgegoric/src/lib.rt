@@ -34,7 +34,6 @@ pub struct MadeCategoric {
 
 impl CategoricNumeric {
     // The largest key of a table.
-    // The largest key of a table.
     pub const MAX_LOOKUP_SIZE: i64 = 512;
 
     pub fn default() -> CategoricNumeric
@@ -199,7 +198,7 @@ fn new(given: &[i64; 256], words: &[u32; 256], n: usize) -> CategoricNumeric
 }
 
 // The record of some categories, with their table.
-fn with_lookup(keys: [i64; 256], colors: [u32; 256], count: usize) -> CategoricNumeric
+pub fn with_lookup(keys: [i64; 256], colors: [u32; 256], count: usize) -> CategoricNumeric
     requires { ⌜ count ≤ 256 ⌝ }
     ensures { λ r. ⌜ r ≡ record {
       keys = keys;

@@ -1,6 +1,7 @@
 -- The settings, and the colours that they give (docs/RULES.md, "Samples and settings"). Definitions only.
 use Prim.Native.Nat.{ℕ}
-use mathlib.Core.Bool.{false}
+use mathlib.Core.Bool.{Bool, false, cond}
+use lib.Dec.{eqb}
 use Rattle.color.specs.Word.{wordOf, transparent}
 use Rattle.colormapper.specs.declared.OptionalColor.{OptionalColor}
 use Rattle.colormapper.specs.declared.OptionalColor.the-variants.{Given, Absent}
@@ -14,6 +15,17 @@ noSettings = record { «nodata_color» = wordOf transparent; «out_of_range_low_
 abbrev pub orElse : OptionalColor → ℕ → ℕ
 orElse (Given color) other = color
 orElse Absent other = other
+
+-- a colour and a setting as flags, 0 or 1
+abbrev pub colorIf : (given color : ℕ) → OptionalColor
+colorIf given color = cond (eqb given 1) (Given color) Absent
+
+abbrev pub givenFlag : OptionalColor → ℕ
+givenFlag (Given color) = 1
+givenFlag Absent = 0
+
+abbrev pub flagOf : Bool → ℕ
+flagOf b = cond b 1 0
 
 -- low and high are what a kind takes where the settings have none
 abbrev pub unmappableColors : MappingConfig → (low high : ℕ) → UnmappableColors

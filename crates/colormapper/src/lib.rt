@@ -8,7 +8,7 @@ ghost use lib.Ieee.{nan};
 ghost use lib.ListN.{getD};
 ghost use Rattle.floats.specs.RampIndex.{nought};
 ghost use Rattle.lists.specs.Lanes.{LanesOf};
-ghost use Rattle.colormapper.specs.Settings.{orElse, unmappableColors, noSettings};
+ghost use Rattle.colormapper.specs.Settings.{orElse, colorIf, givenFlag, flagOf, unmappableColors, noSettings};
 ghost use Rattle.colormapper.specs.Unmappable.{unmappable};
 ghost use Rattle.colormapper.specs.forms.Exclusions.{excluded, valueOrNan, exclusionsOf};
 
@@ -61,6 +61,35 @@ pub fn unwrap_or(color: OptionalColor, other: u32) -> u32
         OptionalColor::Absent => other,
     }
 }
+
+// ---- flags, 0 or 1, for whoever stores settings as numbers
+
+// A colour beside the flag that says whether it is there.
+pub fn color_if(given: u32, color: u32) -> OptionalColor
+    ensures { λ r. ⌜ r ≡ colorIf given color ⌝ }
+{
+    if given == 1 {
+        return OptionalColor::Given(color);
+    }
+    OptionalColor::Absent
+}
+
+pub fn given_flag(color: OptionalColor) -> u32
+    ensures { λ r. ⌜ r ≡ givenFlag color ⌝ }
+{
+    match color {
+        OptionalColor::Given(_) => 1,
+        OptionalColor::Absent => 0,
+    }
+}
+
+pub fn flag_of(set: bool) -> u32
+    ensures { λ r. ⌜ r ≡ flagOf set ⌝ }
+{
+    if set { 1 } else { 0 }
+}
+
+// ---- unmappable samples
 
 // The settings' colours, with a kind's own colours where low or high is absent.
 pub fn compute_unmappable_colors(config: MappingConfig, low: u32, high: u32) -> UnmappableColors

@@ -1,8 +1,9 @@
 -- A legend: its kind beside the three records, of which that of its kind alone counts, and its settings (docs/RULES.md, "Where each call says no"). Definitions
 -- only.
-use mathlib.Core.Bool.{Bool, true}
+use Prim.Native.Nat.{ℕ}
+use mathlib.Core.Bool.{Bool, true, cond}
 use mathlib.Core.List.{[]}
-use lib.Dec.{ltb}
+use lib.Dec.{ltb, eqb}
 use Rattle.refusal.specs.declared.Answer.{Answer}
 use Rattle.refusal.specs.declared.Answer.the-variants.{Done}
 use Rattle.colormapper.specs.declared.MappingConfig.{MappingConfig}
@@ -16,6 +17,15 @@ use Rattle.catgegoric.specs.Made.{emptyCategoric, categoricRefusal}
 use Rattle.legend.specs.declared.LegendKind.{LegendKind}
 use Rattle.legend.specs.declared.LegendKind.the-variants as kind
 use Rattle.legend.specs.declared.Legend.{Legend}
+
+-- 0 linear, 1 banded, 2 categoric; who reads a number refuses those from 3 on first
+abbrev pub kindNumber : LegendKind → ℕ
+kindNumber kind.Linear = 0
+kindNumber kind.Banded = 1
+kindNumber kind.CategoricNumeric = 2
+
+abbrev pub kindNumbered : ℕ → LegendKind
+kindNumbered n = cond (eqb n 0) kind.Linear (cond (eqb n 1) kind.Banded kind.CategoricNumeric)
 
 -- the other two records are the empty ones
 abbrev pub linearLegend : Linear → MappingConfig → Legend

@@ -5,12 +5,38 @@ use colormapper::MappingConfig;
 use linear::Linear;
 use refusal::Answer;
 ghost use mathlib.Core.Path.{_≡_};
-ghost use Rattle.legend.specs.Record.{linearLegend, bandedLegend, categoricLegend, emptyLegend, storedRefusal};
+ghost use Rattle.legend.specs.Record.{kindNumber, kindNumbered, linearLegend, bandedLegend, categoricLegend, emptyLegend, storedRefusal};
 
 pub enum LegendKind {
     Linear,
     Banded,
     CategoricNumeric,
+}
+
+impl LegendKind {
+    // Its number wherever a legend is stored: 0, 1 or 2.
+    pub fn number(self) -> u32
+        ensures { λ r. ⌜ r ≡ kindNumber self ⌝ }
+    {
+        match self {
+            LegendKind::Linear => 0,
+            LegendKind::Banded => 1,
+            LegendKind::CategoricNumeric => 2,
+        }
+    }
+
+    // The kind with a number. A number that is none of the three has been refused before.
+    pub fn from_number(number: u32) -> LegendKind
+        ensures { λ r. ⌜ r ≡ kindNumbered number ⌝ }
+    {
+        if number == 0 {
+            return LegendKind::Linear;
+        }
+        if number == 1 {
+            return LegendKind::Banded;
+        }
+        LegendKind::CategoricNumeric
+    }
 }
 
 // A kind beside the three records, of which that of the kind alone counts: an enum cannot hold arrays.

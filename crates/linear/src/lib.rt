@@ -71,7 +71,7 @@ impl Linear {
     }
 }
 
-fn range_refusal(start: f32, end: f32) -> Answer
+pub fn range_refusal(start: f32, end: f32) -> Answer
     ensures { λ r. ⌜ r ≡ rangeRefusal start end ⌝ }
 {
     if start > end {

@@ -3,3 +3,4 @@ pub mod Tabulated
 pub mod Padding
 pub mod Filling
 pub mod LanesOf
+pub mod Entries

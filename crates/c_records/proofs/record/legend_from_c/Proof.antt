@@ -4,8 +4,8 @@ use borrow.Author.Needs.{needs}
 use Rattle.c_records.proofs.record.legend_from_c.Statement.{statement}
 use Rattle.c_records.proofs.record.legend_from_c.Tie as tie
 
-kind-from-c-requires : tie.Need-kind-from-c-requires
-kind-from-c-requires c κs = search needs
+from-number-requires : tie.Need-from-number-requires
+from-number-requires c κs = search needs
 
 settings-from-c-requires : tie.Need-settings-from-c-requires
 settings-from-c-requires c κs = search needs
@@ -17,7 +17,7 @@ returns c =
     let s6 = s4 .before .before in
     let r = s6 .args .stored in
     λ j. record {
-      kind = c .before .kind-from-c .ensures j;
+      kind = c .before .from-number .ensures j;
       linear = r .linear;
       banded = r .banded;
       categoric = r .categoric;
@@ -25,4 +25,4 @@ returns c =
     }
 
 pub legend-from-c-spec : {M : Type 1} → statement M
-legend-from-c-spec = tie.close (tie.spec kind-from-c-requires settings-from-c-requires returns)
+legend-from-c-spec = tie.close (tie.spec from-number-requires settings-from-c-requires returns)

@@ -4,8 +4,8 @@ use borrow.Author.Needs.{needs}
 use Rattle.c_records.proofs.record.record_to_c.Statement.{statement}
 use Rattle.c_records.proofs.record.record_to_c.Tie as tie
 
-kind-to-c-requires : tie.Need-kind-to-c-requires
-kind-to-c-requires c κs = search needs
+number-requires : tie.Need-number-requires
+number-requires c κs = search needs
 
 settings-to-c-requires : tie.Need-settings-to-c-requires
 settings-to-c-requires c κs = search needs
@@ -17,7 +17,7 @@ returns c =
     let s6 = s4 .before .before in
     let l = s6 .args .made in
     λ j. record {
-      kind = c .before .kind-to-c .ensures j;
+      kind = c .before .number .ensures j;
       settings = c .settings-to-c .ensures j;
       linear = l .linear;
       banded = l .banded;
@@ -25,4 +25,4 @@ returns c =
     }
 
 pub record-to-c-spec : {M : Type 1} → statement M
-record-to-c-spec = tie.close (tie.spec kind-to-c-requires settings-to-c-requires returns)
+record-to-c-spec = tie.close (tie.spec number-requires settings-to-c-requires returns)

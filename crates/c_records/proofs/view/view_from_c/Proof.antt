@@ -4,8 +4,8 @@ use borrow.Author.Needs.{needs}
 use Rattle.c_records.proofs.view.view_from_c.Statement.{statement}
 use Rattle.c_records.proofs.view.view_from_c.Tie as tie
 
-kind-from-c-requires : tie.Need-kind-from-c-requires
-kind-from-c-requires c κs = search needs
+from-number-requires : tie.Need-from-number-requires
+from-number-requires c κs = search needs
 
 settings-from-c-requires : tie.Need-settings-from-c-requires
 settings-from-c-requires c κs = search needs
@@ -14,7 +14,7 @@ returns : tie.Need-returns
 unfolding viewFromC
 returns c =
     let a = c .before .before .before .args in λ j. record {
-      kind = c .before .kind-from-c .ensures j;
+      kind = c .before .from-number .ensures j;
       start = a .given .start;
       end = a .given .end;
       banded = a .banded;
@@ -24,4 +24,4 @@ returns c =
     }
 
 pub view-from-c-spec : {M : Type 1} → statement M
-view-from-c-spec = tie.close (tie.spec kind-from-c-requires settings-from-c-requires returns)
+view-from-c-spec = tie.close (tie.spec from-number-requires settings-from-c-requires returns)

@@ -1,14 +1,14 @@
 -- Lists by their entries: by one rule, mapped, and the first entries of an array. Assumes nothing.
 use Prim.Native.Nat.{ℕ, zero, suc, _≤_, _<_}
-use mathlib.Core.Path.{_≡_, refl, ap, ap₂, _∙_}
+use mathlib.Core.Path.{_≡_, refl, sym, ap, ap₂, _∙_}
 use mathlib.Core.List.{List, [], _∷_, map}
 use native.Mathlib.Nat.{zero-lt-suc, le-of-suc-le-suc, not-suc-le-zero}
 use native.Mathlib.Omega.{arith}
 use lib.ListN.{length, getD, take}
 use lib.Seq.{length-take-le, getD-take}
 use Rattle.lists.specs.Lanes.{Lanes}
 use Rattle.lists.specs.Tabulate.{tabulate}
 use Rattle.lists.proofs.Tabulated.{tabulated}
 
 module _ {A : Type 0} where
   pub same-rule : (n : ℕ) (f g : ℕ → A) → ((k : ℕ) → k < n → f k ≡ g k) → tabulate n f ≡ tabulate n g
@@ -20,6 +20,10 @@ module _ {A : Type 0} where
   -- the first n entries of an array, of which each is known
   pub front : (z : A) (n : ℕ) (f : ℕ → A) (r : List A) → n ≤ length r → Lanes z n r f → take n r ≡ tabulate n f
   front z n f r h all = tabulated z n f (take n r) (length-take-le n r h) (λ k q. getD-take n r k z q ∙ all k q)
+
+  -- by its own entries
+  pub tabulate-front : (z : A) (n : ℕ) (xs : List A) → n ≤ length xs → tabulate n (λ k. getD xs k z) ≡ take n xs
+  tabulate-front z n xs h = sym (front z n (λ k. getD xs k z) xs h (λ k q. refl))
 
 module _ {A B : Type 0} where
   pub map-rule : (g : A → B) (n : ℕ) (f : ℕ → A) → map g (tabulate n f) ≡ tabulate n (λ k. g (f k))

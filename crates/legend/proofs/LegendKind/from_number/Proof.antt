@@ -1,7 +1,7 @@
--- `record::kind_from_c` meets its contract. Assumes nothing.
+-- `LegendKind::from_number` meets its contract. Assumes nothing.
 use borrow.Author.Tests.{eq-eqb, ne-eqb}
-use Rattle.c_records.proofs.record.kind_from_c.Statement.{statement}
-use Rattle.c_records.proofs.record.kind_from_c.Tie as tie
+use Rattle.legend.proofs.LegendKind.from_number.Statement.{statement}
+use Rattle.legend.proofs.LegendKind.from_number.Tie as tie
 
 returns : tie.Need-returns
 returns c = simp (eq-eqb _ _ (c .if1 .taken))
@@ -12,5 +12,5 @@ returns-2 c = simp (ne-eqb _ _ (c .before .if1 .left), eq-eqb _ _ (c .if2 .taken
 returns-3 : tie.Need-returns-3
 returns-3 c = simp (ne-eqb _ _ (c .before .if1 .left), ne-eqb _ _ (c .if2 .left))
 
-pub kind-from-c-spec : {M : Type 1} → statement M
-kind-from-c-spec = tie.close (tie.spec returns returns-2 returns-3)
+pub from-number-spec : {M : Type 1} → statement M
+from-number-spec = tie.close (tie.spec returns returns-2 returns-3)

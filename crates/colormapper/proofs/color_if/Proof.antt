@@ -1,7 +1,7 @@
--- `settings::color_if` meets its contract. Assumes nothing.
+-- `color_if` meets its contract. Assumes nothing.
 use borrow.Author.Tests.{eq-eqb, ne-eqb}
-use Rattle.c_types.proofs.settings.color_if.Statement.{statement}
-use Rattle.c_types.proofs.settings.color_if.Tie as tie
+use Rattle.colormapper.proofs.color_if.Statement.{statement}
+use Rattle.colormapper.proofs.color_if.Tie as tie
 
 returns : tie.Need-returns
 returns c = simp (eq-eqb _ _ (c .if1 .taken))
