@@ -1,11 +1,11 @@
 -- Refusals in the order of the table's rows: for each place of docs/RULES.md, "Where each call says no", and each two refusals that can both apply there, an
 -- input to which both apply, and the one that is given. Definitions only.
 use mathlib.Core.Bool.{Bool, true, _&&_}
-use mathlib.Core.List.{List, [], _∷_}
+use mathlib.Core.List.{List, [], _∷_, _++_}
 use Prim.Native.Nat.{ℕ}
 use lib.Dec.{eqb}
 use lib.IntN.{ℤ, pos, negsuc}
-use lib.ListN.{replicate}
+use lib.ListN.{take, replicate}
 use Rattle.refusal.specs.declared.Answer.{Answer}
 use Rattle.refusal.specs.declared.Answer.the-variants.{Done}
 use Rattle.refusal.specs.declared.Answer.the-variants as answer
@@ -16,13 +16,17 @@ use Rattle.color.specs.Hex.{hexColor}
 use Rattle.colormapper.specs.Settings.{noSettings}
 use Rattle.linear.specs.Made.{linearOfList}
 use Rattle.banded_lists.specs.declared.ValueRange.{ValueRange}
+use Rattle.banded_lists.specs.Padded.{blankBand}
 use Rattle.banded.specs.Record.{bandedRefusal}
 use Rattle.banded.specs.EqualBands.{withEqualBands}
 use Rattle.banded.specs.ManualRanges.{withManualRanges}
 use Rattle.catgegoric.specs.Made.{forValues, forValueRange}
 use Rattle.painting.specs.Contracts.{plainRefusal, laneRefusal}
-use Rattle.legend.specs.Record.{categoricLegend}
+use Rattle.legend.specs.declared.Legend.{Legend}
+use Rattle.legend.specs.Record.{linearLegend, bandedLegend, categoricLegend}
 use Rattle.legend_range.specs.ValueRanges.{totalRangeRefusal}
+use Rattle.card_layout.specs.Cards.{cardOf}
+use Rattle.card_layout.specs.Refusals.{readRefusal, writeRefusal}
 use Rattle.claim_examples.specs.Decimals.{integer}
 
 abbrev of-hex : HexColor → Answer
@@ -43,6 +47,18 @@ most = pos 9223372036854775807
 -- the least key above those allowed
 abbrev above : ℤ
 above = pos 16777217
+
+-- a linear legend that starts above its end, and what would be its card
+abbrev backwards : Legend
+backwards = linearLegend (record { start = integer 1; end = integer 0; cmap = replicate 256 0 }) noSettings
+
+abbrev turned : List ℕ
+turned = cardOf [] backwards
+
+-- a categoric record that counts one key twice
+abbrev equalKeys : Legend
+equalKeys =
+    categoricLegend (record { keys = replicate 256 (pos 1); colors = replicate 256 1; count = 2; lookup = replicate 513 0; «lookup_count» = 0 }) noSettings
 
 pub record Row : Type 0 where
   pub number : ℕ
@@ -90,4 +106,12 @@ rows =
     ∷ row 14 (laneRefusal Done 5 15 4 4)
     ∷ row 14 (laneRefusal Done 5 16 4 3)
     ∷ row 15 (laneRefusal Done 4 15 4 3)
+    -- a card read: 18 and 19, cut off after the version; 18 and 7, a byte before it; 19 and 7, a byte after it
+    ∷ row 18 (readRefusal (take 5 turned))
+    ∷ row 18 (readRefusal (0 ∷ turned))
+    ∷ row 19 (readRefusal (turned ++ (0 ∷ [])))
+    -- a card written: 16 and 20, a count, or keys that do not ascend; 7 and 20
+    ∷ row 16 (writeRefusal (replicate 256 0) (bandedLegend (record { bands = replicate 64 blankBand; count = 65 }) noSettings) [])
+    ∷ row 16 (writeRefusal [] equalKeys [])
+    ∷ row 7 (writeRefusal (replicate 256 0) backwards [])
     ∷ []

@@ -4,7 +4,7 @@ use Rattle.refusal.specs.declared.Refusal.{Refusal}
 use Rattle.refusal.specs.declared.Refusal.the-variants.{EmptyText, NotHexColor, NotHexByte, TooFewColors, TooManyColors, NoSuchPalette, StartAboveEnd}
 use Rattle.refusal.specs.declared.Refusal.the-variants.{TooManyBands, ColorCountDiffers, EmptyRange, TooManyCategories, RangeTooWide}
 use Rattle.refusal.specs.declared.Refusal.the-variants.{OutputLengthDiffers, NoSuchLaneCount, ScratchTooShort, CountAboveCapacity, KeyOutOfRange}
-use Rattle.refusal.specs.declared.Refusal.the-variants.{BadFlag, BadKind}
+use Rattle.refusal.specs.declared.Refusal.the-variants.{CardUnknown, CardMalformed, CardTooLong, BadFlag, BadKind}
 use Rattle.refusal.specs.declared.Index.{Index}
 use Rattle.refusal.specs.declared.Index.the-variants.{At, Absent}
 use Rattle.refusal.specs.declared.Answer.{Answer}
@@ -33,6 +33,10 @@ numberOf ScratchTooShort = 15
 -- records and keys
 numberOf CountAboveCapacity = 16
 numberOf (KeyOutOfRange key) = 17
+-- cards
+numberOf CardUnknown = 18
+numberOf CardMalformed = 19
+numberOf CardTooLong = 20
 -- the interface for C
 numberOf BadFlag = 100
 numberOf BadKind = 101
@@ -56,6 +60,9 @@ indexOf NoSuchLaneCount = Absent
 indexOf ScratchTooShort = Absent
 indexOf CountAboveCapacity = Absent
 indexOf (KeyOutOfRange key) = At key
+indexOf CardUnknown = Absent
+indexOf CardMalformed = Absent
+indexOf CardTooLong = Absent
 indexOf BadFlag = Absent
 indexOf BadKind = Absent
 

@@ -21,6 +21,9 @@ pub enum Refusal {
     ScratchTooShort,
     CountAboveCapacity,
     KeyOutOfRange(usize),
+    CardUnknown,
+    CardMalformed,
+    CardTooLong,
     BadFlag,
     BadKind,
 }
@@ -38,7 +41,7 @@ pub enum Answer {
 }
 
 impl Refusal {
-    // The number in the table of refusals, 1 to 17; 100 and 101 of the interface for C.
+    // The number in the table of refusals, 1 to 20; 100 and 101 of the interface for C.
     pub fn number(self) -> u32
         ensures { λ r. ⌜ r ≡ numberOf self ⌝ }
     {
@@ -60,6 +63,9 @@ impl Refusal {
             Refusal::ScratchTooShort => 15,
             Refusal::CountAboveCapacity => 16,
             Refusal::KeyOutOfRange(_) => 17,
+            Refusal::CardUnknown => 18,
+            Refusal::CardMalformed => 19,
+            Refusal::CardTooLong => 20,
             Refusal::BadFlag => 100,
             Refusal::BadKind => 101,
         }
@@ -87,6 +93,9 @@ impl Refusal {
             Refusal::ScratchTooShort => Index::Absent,
             Refusal::CountAboveCapacity => Index::Absent,
             Refusal::KeyOutOfRange(i) => Index::At(i),
+            Refusal::CardUnknown => Index::Absent,
+            Refusal::CardMalformed => Index::Absent,
+            Refusal::CardTooLong => Index::Absent,
             Refusal::BadFlag => Index::Absent,
             Refusal::BadKind => Index::Absent,
         }
