@@ -1,0 +1,10 @@
+pub mod Values
+pub mod Settings
+pub mod Fields
+pub mod Entries
+pub mod Lists
+pub mod Written
+pub mod Accepted
+pub mod Exactly
+pub mod ThereAndBack
+pub mod Built

@@ -1,0 +1,4 @@
+pub mod Held
+pub mod Exact
+pub mod ThereAndBack
+pub mod Built
