@@ -562,6 +562,76 @@ static void whole_uses(const Case *test, float start, float end, uint32_t first,
     EXPECT(is_refused(CALL(legend_color_list)(&other).answer, LEGEND_COUNT_ABOVE_CAPACITY));
 }
 
+/* ---- Cards ---- */
+
+/* Bands 1 to 2 and 2 to 3 under the title "rain", with a low colour and zero as nodata: each byte of the card. */
+static const uint8_t CARD[] = {
+    'L', 'G', 'C', 1, 0, 1, 4, 'r', 'a', 'i', 'n', 0x11, 0x11, 0x11, 0x11, 5, 0x22, 0x22, 0x22, 0x22, 0, 0, 0, 0, 2, 0,
+    0, 0, 0x80, 0x3f, 0, 0, 0, 0x40, 0x44, 0x44, 0x44, 0x44, 0, 0, 0, 0x40, 0, 0, 0x40, 0x40, 0x55, 0x55, 0x55, 0x55};
+
+/* Whether two legends are the same, unused places too. */
+static int is_legend(const LegendRecord *one, const LegendRecord *other) {
+    return one->kind == other->kind && memcmp(&one->settings, &other->settings, sizeof one->settings) == 0 &&
+           memcmp(&one->linear, &other->linear, sizeof one->linear) == 0 &&
+           memcmp(one->banded.bands, other->banded.bands, sizeof one->banded.bands) == 0 &&
+           one->banded.count == other->banded.count &&
+           memcmp(one->categoric.keys, other->categoric.keys, sizeof one->categoric.keys) == 0 &&
+           memcmp(one->categoric.colors, other->categoric.colors, sizeof one->categoric.colors) == 0 &&
+           one->categoric.count == other->categoric.count &&
+           memcmp(one->categoric.lookup, other->categoric.lookup, sizeof one->categoric.lookup) == 0 &&
+           one->categoric.lookup_count == other->categoric.lookup_count;
+}
+
+static void cards(void) {
+    const LegendBand bands[2] = {{1.0f, 2.0f, A}, {2.0f, 3.0f, B}};
+    const LegendMade banded = legend_create_banded_as_given(bands, 2, settings_with(1, 0, 1));
+    const uint8_t title[5] = {'r', 'a', 'i', 'n', 's'};
+    uint8_t buffer[sizeof CARD + 2], before[sizeof CARD + 2];
+    memset(before, 0x99, sizeof before);
+
+    memcpy(buffer, before, sizeof buffer);
+    const LegendWrittenCard written = CALL(legend_write_card)(&banded.legend, title, 4, buffer, sizeof buffer);
+    EXPECT(is_done(written.answer) && written.length == sizeof CARD);
+    EXPECT(memcmp(buffer, CARD, sizeof CARD) == 0 && buffer[sizeof CARD] == 0x99 && buffer[sizeof CARD + 1] == 0x99);
+    memcpy(buffer, before, sizeof buffer);
+    const LegendWrittenCard own = CALL(legend_record_write_card)(banded.legend, title, 4, buffer, sizeof CARD);
+    EXPECT(is_done(own.answer) && own.length == sizeof CARD && memcmp(buffer, CARD, sizeof CARD) == 0);
+
+    /* Refused: the buffer is as it was, and the length is 0. */
+    memcpy(buffer, before, sizeof buffer);
+    LegendWrittenCard refused = CALL(legend_write_card)(&banded.legend, title, 4, buffer, sizeof CARD - 1);
+    EXPECT(is_refused(refused.answer, LEGEND_CARD_TOO_LONG) && refused.length == 0);
+    LegendRecord other = banded.legend;
+    other.banded.count = 65;
+    refused = CALL(legend_write_card)(&other, title, 4, buffer, 0);
+    EXPECT(is_refused(refused.answer, LEGEND_COUNT_ABOVE_CAPACITY) && refused.length == 0);
+    other.kind = 3;
+    refused = CALL(legend_write_card)(&other, title, 4, buffer, sizeof buffer);
+    EXPECT(is_refused(refused.answer, LEGEND_BAD_KIND) && refused.length == 0);
+    other.settings.has_low = 2;
+    refused = CALL(legend_record_write_card)(other, title, 4, buffer, sizeof buffer);
+    EXPECT(is_refused(refused.answer, LEGEND_BAD_FLAG) && refused.length == 0);
+    EXPECT(memcmp(buffer, before, sizeof buffer) == 0);
+    EXPECT(is_refused(CALL_WITH_NULL(legend_write_card)(&banded.legend, NULL, 0, NULL, 0).answer, LEGEND_CARD_TOO_LONG));
+    refused = CALL_WITH_NULL(legend_record_write_card)(banded.legend, NULL, 0, NULL, 0);
+    EXPECT(is_refused(refused.answer, LEGEND_CARD_TOO_LONG) && refused.length == 0);
+
+    const LegendMade back = CALL(legend_read_card)(CARD, sizeof CARD);
+    EXPECT(is_done(back.answer) && is_legend(&back.legend, &banded.legend));
+    EXPECT(is_refused(CALL(legend_read_card)(CARD, 5).answer, LEGEND_CARD_UNKNOWN));
+    EXPECT(is_refused(CALL(legend_read_card)(CARD, sizeof CARD - 1).answer, LEGEND_CARD_MALFORMED));
+    EXPECT(is_refused(CALL_WITH_NULL(legend_read_card)(NULL, 0).answer, LEGEND_CARD_UNKNOWN));
+
+    size_t length = 99;
+    EXPECT(CALL(legend_card_title)(CARD, sizeof CARD, &length) == CARD + 7 && length == 4);
+    EXPECT(CALL(legend_card_title)(CARD, 5, &length) == CARD && length == 0);
+    EXPECT(CALL_WITH_NULL(legend_card_title)(NULL, 0, &length) == NULL && length == 0);
+    const LegendTitlePart part = CALL(legend_card_title_part)(CARD, sizeof CARD);
+    EXPECT(part.offset == 7 && part.length == 4);
+    const LegendTitlePart none = CALL_WITH_NULL(legend_card_title_part)(NULL, 0);
+    EXPECT(none.offset == 0 && none.length == 0);
+}
+
 int main(void) {
     colors_ramps_keys();
     for (uint32_t bits = 0; bits < 8; bits++) {
@@ -571,6 +641,7 @@ int main(void) {
         categoric_builders(settings);
     }
     flags();
+    cards();
 
     static Case cases[4];
     fill_cases(cases);

@@ -42,6 +42,11 @@ static float floats[LENGTH];
 static uint8_t bytes[LENGTH];
 static int16_t shorts[LENGTH];
 static uint32_t out[LENGTH], scratch[16];
+static uint8_t card[LEGEND_CARD_CAPACITY];
+static const uint8_t *title;
+static size_t title_length;
+static LegendWrittenCard written;
+static LegendTitlePart part;
 
 static void nothing(void) {
 }
@@ -93,6 +98,12 @@ static void paint_lanes_i16(void) {
 }
 static void total_value_range(void) { range = legend_total_value_range(&used->legend); }
 static void color_list(void) { list = legend_color_list(&used->legend); }
+static void write_card(void) {
+    written = legend_write_card(&used->legend, bytes, 255, card, LEGEND_CARD_CAPACITY);
+}
+static void read_card(void) { made = legend_read_card(card, written.length); }
+static void card_title(void) { title = legend_card_title(card, written.length, &title_length); }
+static void card_title_part(void) { part = legend_card_title_part(card, written.length); }
 
 /* Where a thread's function stood on its stack. */
 static const unsigned char *above;
@@ -210,6 +221,10 @@ int main(void) {
         }
         MEASURE(total_value_range);
         MEASURE(color_list);
+        MEASURE(write_card);
+        MEASURE(read_card);
+        MEASURE(card_title);
+        MEASURE(card_title_part);
     }
     printf("most: %zu %s\n", most, deepest);
     return 0;

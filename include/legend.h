@@ -15,8 +15,8 @@
  * rounding direction changes colours, and flushing subnormal numbers to zero may.
  *
  * A call takes less than 40,000 bytes of stack, with what C puts there for its arguments and its result. The most that
- * was seen is 36,871, in legend_create_categoric_for_value_list, 7,000 of them for the result; in a painting 9,887
- * (c/stack.c measures each call).
+ * was seen is 38,551, in legend_create_categoric_for_value_range_from_ramp, 7,000 of them for the result; in a painting
+ * 9,855, and 23,511 where a card is read (c/stack.c measures each call).
  */
 #ifndef LEGEND_H
 #define LEGEND_H
@@ -50,6 +50,9 @@ enum {
     LEGEND_SCRATCH_TOO_SHORT = 15,
     LEGEND_COUNT_ABOVE_CAPACITY = 16,
     LEGEND_KEY_OUT_OF_RANGE = 17, /* index: the first such key, from 0 */
+    LEGEND_CARD_UNKNOWN = 18,
+    LEGEND_CARD_MALFORMED = 19,
+    LEGEND_CARD_TOO_LONG = 20,
     /* This interface's own, before any of the others: the flags of settings or a legend, then the kind, then the flag of
      * a nodata value. */
     LEGEND_BAD_FLAG = 100, /* a flag that is neither 0 nor 1 */
@@ -402,6 +405,54 @@ LegendColorList legend_record_color_list(LegendRecord legend);
 
 static inline LegendColorList legend_color_list(const LegendRecord *legend) {
     return legend_record_color_list(*legend);
+}
+
+/* ---- Cards ----
+ *
+ * A legend as one file, under a title of 0 to 255 bytes; docs/CARD.md has the layout. The bytes of a title are not looked
+ * at. Reading a card gives back the entries that were counted, the table, the settings and the title, in the record that a
+ * builder makes of them; a NaN is given back as a NaN. Accepted are the cards that the writer writes, and no other bytes. */
+
+/* A buffer of this length has room for every card. */
+enum {
+    LEGEND_CARD_CAPACITY = 3349
+};
+
+/* The card's length, 0 beside a refusal. */
+typedef struct LegendWrittenCard {
+    LegendAnswer answer;
+    size_t length;
+} LegendWrittenCard;
+
+/* The card of a legend, in the first bytes of a buffer; its other bytes, and all beside a refusal, are as they were. The
+ * buffer overlaps neither the title nor the legend. Refused: 100 for a flag of the legend, 101 for its kind; 16 for a
+ * stored count, and for keys that do not ascend or pass the limit of 17 or a table that is not what the keys give; 7; 20
+ * for a title above 255 bytes, and for a buffer that is too short. */
+LegendWrittenCard legend_record_write_card(LegendRecord legend, const uint8_t *title, size_t title_length,
+                                           uint8_t *buffer, size_t buffer_length);
+
+static inline LegendWrittenCard legend_write_card(const LegendRecord *legend, const uint8_t *title, size_t title_length,
+                                                  uint8_t *buffer, size_t buffer_length) {
+    return legend_record_write_card(*legend, title, title_length, buffer, buffer_length);
+}
+
+/* The legend on a card. Refused: 18 where the mark, the version or the kind is wrong or cut off; 19 where the rest breaks
+ * the layout; 7. */
+LegendMade legend_read_card(const uint8_t *card, size_t card_length);
+
+/* Where the title is among a card's bytes: 0 and 0 where the title is empty or the card is refused. */
+typedef struct LegendTitlePart {
+    size_t offset;
+    size_t length;
+} LegendTitlePart;
+
+LegendTitlePart legend_card_title_part(const uint8_t *card, size_t card_length);
+
+/* The title, as a part of the card's own bytes; its length goes to where `title_length` points. */
+static inline const uint8_t *legend_card_title(const uint8_t *card, size_t card_length, size_t *title_length) {
+    const LegendTitlePart part = legend_card_title_part(card, card_length);
+    *title_length = part.length;
+    return part.length == 0 ? card : card + part.offset;
 }
 
 #ifdef __cplusplus

@@ -24,13 +24,13 @@ impl Row {
     }
 }
 
-fn median(mut times: Vec<f64>) -> f64 {
+pub fn median(mut times: Vec<f64>) -> f64 {
     times.sort_by(f64::total_cmp);
     times[times.len() / 2]
 }
 
 /// Nanoseconds for one of `calls` calls.
-fn clocked(calls: usize, mut call: impl FnMut()) -> f64 {
+pub fn clocked(calls: usize, mut call: impl FnMut()) -> f64 {
     let began = Instant::now();
     for _ in 0..calls {
         call();

@@ -1,6 +1,7 @@
 //! The benchmark: `cargo run --release -p bench` times the library and the reference in one process, in rounds that
 //! alternate, and writes `docs/BENCHMARK.md`. With `--print` it writes no file; `--rounds N` takes other than 11 rounds.
 
+mod cards;
 mod clock;
 mod pairs;
 mod rasters;
@@ -56,7 +57,7 @@ fn main() -> ExitCode {
     let words: Vec<String> = std::env::args().skip(1).collect();
     let rounds = words.iter().position(|word| word == "--rounds").and_then(|at| words.get(at + 1)?.parse().ok());
     let rounds = rounds.unwrap_or(11);
-    let report = report::text(&large(rounds), &small(rounds), &growth(rounds), rounds);
+    let report = report::text(&large(rounds), &small(rounds), &growth(rounds), &cards::cards(rounds), rounds);
     print!("{report}");
     if words.iter().any(|word| word == "--print") {
         return ExitCode::SUCCESS;

@@ -1,5 +1,6 @@
 //! The report, as docs/BENCHMARK.md has it.
 
+use crate::cards::Card;
 use crate::clock::Row;
 use crate::pairs::How;
 use std::fmt::Write;
@@ -68,8 +69,13 @@ real crate does with wide registers is not measured, so the lane rows do not say
 5 % beyond the legend on either side.
 ";
 
+const CARDS: &str = "\
+The library alone: the Rust text has none. Each card has a title of 255 bytes; the last of each kind is its largest. \
+Writing goes into one buffer, reading makes the legend, some 7,000 bytes, and handing the title out tests the whole \
+card. What a card without entries takes is the record's copying.";
+
 /// The whole page.
-pub fn text(large: &[Row], small: &[Row], growth: &[Row], rounds: usize) -> String {
+pub fn text(large: &[Row], small: &[Row], growth: &[Row], cards: &[Card], rounds: usize) -> String {
     let mut page = String::from("# Benchmark\n\n");
     let line = format!("Processor: {}. Date: {}. Rounds: {rounds}. Load: {}.", processor(), today(), load());
     let _ = writeln!(page, "Written by `cargo run --release -p bench` in `rust/`. {line}\n\n{METHOD}");
@@ -94,6 +100,13 @@ pub fn text(large: &[Row], small: &[Row], growth: &[Row], rounds: usize) -> Stri
         let cells = |time: f64| format!("{:.1} | {:.2}", time / 1000.0, time / row.pixels as f64);
         let head = format!("{} | {}", how(row), grouped(row.pixels));
         let _ = writeln!(page, "| {head} | {} | {} | {:.2} |", cells(row.ours), cells(row.theirs), row.ratio());
+    }
+    let _ = writeln!(page, "\n## Cards\n\n{CARDS}\n");
+    let _ = writeln!(page, "| Legend | Bytes | Write, ns | ns a byte | Read, ns | ns a byte | Title, ns |");
+    let _ = writeln!(page, "|---|--:|--:|--:|--:|--:|--:|");
+    for Card { legend, bytes, write, read, title } in cards {
+        let cells = |time: &f64| format!("{time:.0} | {:.2}", time / *bytes as f64);
+        let _ = writeln!(page, "| {legend} | {} | {} | {} | {title:.0} |", grouped(*bytes), cells(write), cells(read));
     }
     page
 }

@@ -2,8 +2,9 @@
 //!
 //! A call to compare is a [`Subject`](engine::Subject), in a file of `subjects`; [`plan::runs`] lists them with their
 //! inputs. A new one is a new file there and a line in that list. What the reference cannot hold is compared with
-//! [`rules`], docs/RULES.md read a second time.
+//! [`rules`] and [`cards`], docs/RULES.md read a second time.
 
+pub mod cards;
 pub mod engine;
 pub mod plan;
 pub mod random;

@@ -5,7 +5,7 @@ use crate::random::Random;
 use crate::subjects::legends::samples::Drawn;
 use crate::subjects::legends::{Kinds, builders, paintings, ranges, values};
 use crate::subjects::stored;
-use crate::subjects::{hex, keys, lookups, palettes, patterns, ramps};
+use crate::subjects::{cards, hex, keys, lookups, palettes, patterns, ramps};
 use std::time::{Duration, Instant};
 
 /// How much is run.
@@ -110,6 +110,12 @@ pub fn rule_runs() -> Vec<Run> {
             || stored::Wholes,
             |plan| stored::random_records(plan.seed, plan.legends),
         ),
+        Run::new(
+            "cards, written of any record",
+            || cards::Writer,
+            |plan| cards::random_writings(plan.seed, plan.legends),
+        ),
+        Run::new("cards, read of any bytes", || cards::Reader, |plan| cards::random_readings(plan.seed, plan.legends)),
     ]
 }
 

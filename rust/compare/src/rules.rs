@@ -13,7 +13,7 @@ pub struct Refused {
 type Answer<T> = Result<T, Refused>;
 
 /// A refusal without an index, if a condition holds.
-fn refuse_if(condition: bool, number: u32) -> Answer<()> {
+pub(crate) fn refuse_if(condition: bool, number: u32) -> Answer<()> {
     if condition { Err(Refused { number, index: None }) } else { Ok(()) }
 }
 
@@ -24,14 +24,14 @@ const E: f32 = 1e-4;
 const KEYS: std::ops::RangeInclusive<i64> = -16_777_216..=16_777_216;
 
 /// 100 and 101: flags of the record first, then its kind.
-fn form(legend: &LegendRecord) -> Answer<()> {
+pub(crate) fn form(legend: &LegendRecord) -> Answer<()> {
     let LegendSettings { has_low, has_high, zero_is_nodata, .. } = legend.settings;
     refuse_if([has_low, has_high, zero_is_nodata].iter().any(|flag| *flag > 1), 100)?;
     refuse_if(legend.kind > 2, 101)
 }
 
 /// 16: of the counts those of the kind count.
-fn stored(legend: &LegendRecord) -> Answer<()> {
+pub(crate) fn stored(legend: &LegendRecord) -> Answer<()> {
     let above = match legend.kind {
         0 => false,
         1 => legend.banded.count > 64,

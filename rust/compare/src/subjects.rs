@@ -1,5 +1,6 @@
 //! The calls that are compared.
 
+pub mod cards;
 pub mod hex;
 pub mod keys;
 pub mod legends;

@@ -2,6 +2,7 @@
 
 use compare::engine::{Fault, Inputs, Subject, compare};
 use compare::plan::{Plan, Run, oracle_runs, rule_runs, run_all};
+use compare::subjects::cards::{self, Reader, Writer, Writing};
 use compare::subjects::legends::paintings::{self, Painting, Paintings};
 use compare::subjects::legends::{Asked, Job, Kinds, builders};
 use compare::subjects::patterns::Block;
@@ -265,4 +266,80 @@ fn a_changed_rule_of_stored_records_is_caught() {
     assert!(!wholes(|_| ()));
     assert!(wholes(|stored| stored.categories.truncate(stored.categories.len().saturating_sub(1))));
     assert!(wholes(|stored| stored.bands.truncate(stored.bands.len().saturating_sub(1))));
+}
+
+fn a_title_loses_its_end(input: &mut Writing) {
+    input.title.pop();
+}
+
+fn bytes_of_another_title(input: &mut Writing) {
+    input.title.reverse();
+}
+
+fn a_buffer_has_room(input: &mut Writing) {
+    input.room += 1;
+}
+
+fn one_category_less(input: &mut Writing) {
+    input.stored.categories.pop();
+}
+
+fn one_band_less(input: &mut Writing) {
+    input.stored.bands.pop();
+}
+
+fn no_high_color(input: &mut Writing) {
+    input.stored.flags[1] = 0;
+}
+
+fn a_range_is_never_backwards(input: &mut Writing) {
+    let (start, end) = &mut input.stored.bounds;
+    if start > end {
+        std::mem::swap(start, end);
+    }
+}
+
+fn any_version(card: &mut Vec<u8>) {
+    if card.len() > 4 {
+        (card[3], card[4]) = (1, 0);
+    }
+}
+
+fn other_flags_are_dropped(card: &mut Vec<u8>) {
+    let at = card.get(6).map_or(0, |&length| 11 + usize::from(length));
+    if let Some(flags) = card.get_mut(at) {
+        *flags &= 7;
+    }
+}
+
+fn a_byte_more_is_not_seen(card: &mut Vec<u8>) {
+    if compare::cards::read(&card[..card.len().saturating_sub(1)]).is_ok() {
+        card.pop();
+    }
+}
+
+fn a_missing_byte_is_zero(card: &mut Vec<u8>) {
+    card.push(0);
+}
+
+/// One rule of the writer or of the reader of cards changed on our side, against the rules.
+#[test]
+fn a_changed_rule_of_cards_is_caught() {
+    let written =
+        |change: fn(&mut Writing)| compare(&Changed(Writer, change), &cards::random_writings(1, 4000), None).is_err();
+    assert!(!written(|_| ()));
+    assert!(written(a_title_loses_its_end));
+    assert!(written(bytes_of_another_title));
+    assert!(written(a_buffer_has_room));
+    assert!(written(one_category_less));
+    assert!(written(one_band_less));
+    assert!(written(no_high_color));
+    assert!(written(a_range_is_never_backwards));
+    let read =
+        |change: fn(&mut Vec<u8>)| compare(&Changed(Reader, change), &cards::random_readings(1, 4000), None).is_err();
+    assert!(!read(|_| ()));
+    assert!(read(any_version));
+    assert!(read(other_flags_are_dropped));
+    assert!(read(a_byte_more_is_not_seen));
+    assert!(read(a_missing_byte_is_zero));
 }

@@ -213,6 +213,26 @@ pub struct LegendColorList {
     pub colors: [Color; 256],
 }
 
+/// The length of a card that was written, 0 beside a refusal.
+#[derive(Debug, Clone, Copy, PartialEq, Eq)]
+#[repr(C)]
+pub struct LegendWrittenCard {
+    /// Refused: 16, 7, 20, [`BAD_FLAG`], [`BAD_KIND`].
+    pub answer: LegendAnswer,
+    /// The length.
+    pub length: usize,
+}
+
+/// Where the title of a card is among its bytes: 0 and 0 where it is empty or the card is refused.
+#[derive(Debug, Clone, Copy, PartialEq, Eq)]
+#[repr(C)]
+pub struct LegendTitlePart {
+    /// The place of its first byte.
+    pub offset: usize,
+    /// How many bytes it has.
+    pub length: usize,
+}
+
 /// The answer's number for a flag that is neither 0 nor 1. It comes before [`BAD_KIND`] where it is one of the
 /// record's three, and after it where it is the flag of a nodata value.
 pub const BAD_FLAG: u32 = 100;
@@ -497,6 +517,15 @@ unsafe extern "C" {
     ) -> LegendAnswer;
     fn legend_record_total_value_range(legend: LegendRecord) -> LegendValueRange;
     fn legend_record_color_list(legend: LegendRecord) -> LegendColorList;
+    fn legend_record_write_card(
+        legend: LegendRecord,
+        title: *const u8,
+        title_length: usize,
+        buffer: *mut u8,
+        buffer_length: usize,
+    ) -> LegendWrittenCard;
+    fn legend_read_card(card: *const u8, card_length: usize) -> LegendMade;
+    fn legend_card_title_part(card: *const u8, card_length: usize) -> LegendTitlePart;
 }
 
 /// The colour of `#RRGGBB` or `#RRGGBBAA`.
@@ -729,6 +758,25 @@ pub fn total_value_range(legend: &LegendRecord) -> LegendValueRange {
 pub fn color_list(legend: &LegendRecord) -> LegendColorList {
     // SAFETY: the call takes and gives plain values, and its contract asks nothing of them.
     unsafe { legend_record_color_list(*legend) }
+}
+
+/// The card of a legend under a title, in the first bytes of a buffer.
+pub fn write_card(legend: &LegendRecord, title: &[u8], buffer: &mut [u8]) -> LegendWrittenCard {
+    // SAFETY: each pointer and the length beside it are one slice's; what is written through is borrowed alone, and the
+    // call keeps none.
+    unsafe { legend_record_write_card(*legend, title.as_ptr(), title.len(), buffer.as_mut_ptr(), buffer.len()) }
+}
+
+/// The legend on a card.
+pub fn read_card(card: &[u8]) -> LegendMade {
+    // SAFETY: the pointer and the length are one slice's, which the call reads and does not keep.
+    unsafe { legend_read_card(card.as_ptr(), card.len()) }
+}
+
+/// Where the title of a card is among its bytes.
+pub fn card_title_part(card: &[u8]) -> LegendTitlePart {
+    // SAFETY: the pointer and the length are one slice's, which the call reads and does not keep.
+    unsafe { legend_card_title_part(card.as_ptr(), card.len()) }
 }
 
 /// Words as the colours that they are.

@@ -275,7 +275,7 @@ impl Legend {
         })
     }
 
-    fn unless(made: LegendMade) -> Result<Legend, Refusal> {
+    pub(crate) fn unless(made: LegendMade) -> Result<Legend, Refusal> {
         Refusal::unless(made.answer, ()).map(|()| Legend(made.legend))
     }
 }

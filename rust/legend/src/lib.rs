@@ -2,9 +2,10 @@
 //!
 //! A [`Legend`] is linear, banded or categoric. It is made of [`Settings`] and of colours, which are a list or a
 //! [`Ramp`] of 256 entries, and paints rasters of `f32`, `u8` or `i16` into lent buffers, sample by sample or in lanes.
+//! It is stored as a card, one file of at most 3,349 bytes, and read back ([`Legend::to_card`], [`Legend::from_card`]).
 //! A [`Color`] is read from text or taken from a [`Palette`]. What a call refuses is a [`Refusal`], with the number of
 //! the table of refusals and an index where that names one; lent buffers are then as they were. Nothing here panics on
-//! an argument, and no call allocates. Calls may run on any threads at once: the library has no state.
+//! an argument, and no call of the library allocates. Calls may run on any threads at once: the library has no state.
 //!
 //! The default floating-point environment is assumed, as everywhere in Rust. A call of the library takes less than 40,000
 //! bytes of stack (`c/stack.c` measures it); the functions of this crate hold records of 6,984 bytes beside that.
@@ -30,6 +31,7 @@
 #![deny(missing_docs)]
 #![deny(unsafe_code)]
 
+mod card;
 mod color;
 #[allow(unsafe_code)]
 pub mod ffi;

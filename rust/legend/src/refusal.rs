@@ -41,17 +41,24 @@ pub enum Refusal {
     NoSuchLaneCount,
     /// The scratch has fewer than 16 words.
     ScratchTooShort,
-    /// A record's own count is above what the record can hold.
+    /// A record's own count is above what the record can hold; for a card also keys that do not ascend or pass the limit,
+    /// and a table that is not what the keys give.
     CountAboveCapacity,
     /// A key lies outside -16,777,216 to 16,777,216.
     KeyOutOfRange {
         /// The first such key, counted from 0.
         key: usize,
     },
+    /// Bytes are no card: the mark, the version or the kind is wrong or cut off.
+    CardUnknown,
+    /// The rest of a card breaks the layout.
+    CardMalformed,
+    /// A card's title is above 255 bytes, or the buffer is too short for the card.
+    CardTooLong,
 }
 
 impl Refusal {
-    /// The refusal's number in the table, 1 to 17.
+    /// The refusal's number in the table, 1 to 20.
     ///
     /// ```
     /// assert_eq!(legend::Refusal::NotHexByte { pair: 2 }.number(), 3);
@@ -75,6 +82,9 @@ impl Refusal {
             Refusal::ScratchTooShort => 15,
             Refusal::CountAboveCapacity => 16,
             Refusal::KeyOutOfRange { .. } => 17,
+            Refusal::CardUnknown => 18,
+            Refusal::CardMalformed => 19,
+            Refusal::CardTooLong => 20,
         }
     }
 
@@ -114,6 +124,9 @@ impl Refusal {
             15 => Refusal::ScratchTooShort,
             16 => Refusal::CountAboveCapacity,
             17 => Refusal::KeyOutOfRange { key: answer.index },
+            18 => Refusal::CardUnknown,
+            19 => Refusal::CardMalformed,
+            20 => Refusal::CardTooLong,
             number => unreachable!("the library's contracts give no refusal {number}"),
         })
     }
@@ -139,6 +152,9 @@ impl fmt::Display for Refusal {
             Refusal::ScratchTooShort => write!(f, "the scratch has 16 words or more"),
             Refusal::CountAboveCapacity => write!(f, "a record's count is above its capacity"),
             Refusal::KeyOutOfRange { key } => write!(f, "key {key} lies outside -16,777,216 to 16,777,216"),
+            Refusal::CardUnknown => write!(f, "the card's mark, version or kind is not known"),
+            Refusal::CardMalformed => write!(f, "the card breaks the layout"),
+            Refusal::CardTooLong => write!(f, "the card's title is above 255 bytes, or the buffer is too short"),
         }
     }
 }
@@ -152,7 +168,7 @@ mod tests {
     #[test]
     fn each_answer_is_its_refusal() {
         assert_eq!(Refusal::unless(LegendAnswer { number: 0, indexed: 0, index: 0 }, 5), Ok(5));
-        for number in 1..=17 {
+        for number in 1..=20 {
             let indexed = [3, 10, 17].contains(&number);
             let index = if indexed { 7 } else { 0 };
             let why = Refusal::unless(LegendAnswer { number, indexed: indexed.into(), index }, ()).unwrap_err();

@@ -63,6 +63,8 @@ fn layouts() -> Vec<Layout> {
         LegendRanges { ranges, count }
         LegendValueRange { answer, start, end }
         LegendColorList { answer, colors }
+        LegendWrittenCard { answer, length }
+        LegendTitlePart { offset, length }
     }
 }
 
@@ -119,7 +121,7 @@ fn header_archive_and_crate_have_the_same_calls() {
     // The header's own functions are written in it; the others are the archive's.
     let inline: BTreeSet<String> =
         header().lines().filter(|line| line.starts_with("static inline ")).flat_map(declared).collect();
-    assert_eq!(inline.len(), 12);
+    assert_eq!(inline.len(), 14);
     assert_eq!(declared(&header()), exported.union(&inline).cloned().collect());
     let crate_source =
         fs::read_to_string(Path::new(env!("CARGO_MANIFEST_DIR")).join("src/ffi.rs")).expect("the source");
@@ -159,6 +161,9 @@ fn refusals_have_the_headers_numbers() {
         ScratchTooShort,
         CountAboveCapacity,
         KeyOutOfRange { key: 0 },
+        CardUnknown,
+        CardMalformed,
+        CardTooLong,
     ];
     for (number, why) in (1..).zip(all) {
         assert_eq!(why.number(), number);
@@ -168,6 +173,8 @@ fn refusals_have_the_headers_numbers() {
     for (name, number) in [("LEGEND_BAD_FLAG", BAD_FLAG), ("LEGEND_BAD_KIND", BAD_KIND)] {
         assert_eq!(words_after(&header(), &format!("{name} = ")), BTreeSet::from([number.to_string()]));
     }
+    let capacity = words_after(&header(), "LEGEND_CARD_CAPACITY = ");
+    assert_eq!(capacity, BTreeSet::from([legend::Legend::CARD_CAPACITY.to_string()]));
     for (name, kind) in
         [("LEGEND_LINEAR", Kind::Linear), ("LEGEND_BANDED", Kind::Banded), ("LEGEND_CATEGORIC", Kind::Categoric)]
     {

@@ -149,7 +149,8 @@ struct Parameter {
 
 /// What a call gives, and the list of its parameters, as the header has them.
 fn signature(header: &str, name: &str) -> (String, String) {
-    let from = header.find(&format!(" {name}(")).expect("a declaration") + 1;
+    let found = [' ', '*'].into_iter().find_map(|before| header.find(&format!("{before}{name}(")));
+    let from = found.expect("a declaration") + 1;
     let line = header[..from].rfind('\n').expect("a line") + 1;
     let list = &header[from + name.len() + 1..];
     let list = &list[..list.find(')').expect("an end")];

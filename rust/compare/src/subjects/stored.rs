@@ -85,7 +85,7 @@ impl Stored {
         }
     }
 
-    fn smaller(&self) -> Vec<Stored> {
+    pub(super) fn smaller(&self) -> Vec<Stored> {
         let same = || self.clone();
         let mut all = vec![];
         if self.above != [0, 0] {
@@ -105,7 +105,7 @@ impl Stored {
 }
 
 /// A record at random.
-fn any(random: &mut Random) -> Stored {
+pub(super) fn any(random: &mut Random) -> Stored {
     let word = |random: &mut Random| random.word() as u32;
     let kind = if random.once_in(64) { random.one_of(&[3, 256, u32::MAX]) } else { random.below(3) as u32 };
     let odd = |random: &mut Random| random.once_in(64).then(|| random.one_of(&[2, 256, u32::MAX]));
@@ -224,7 +224,7 @@ fn lent(first: u32, count: usize) -> Vec<u32> {
 }
 
 /// What the rules refuse, as words.
-fn refused_words<A>(answer: &Result<A, Refused>) -> [u64; 3] {
+pub(super) fn refused_words<A>(answer: &Result<A, Refused>) -> [u64; 3] {
     match answer {
         Ok(_) => DONE,
         Err(Refused { number, index }) => {

@@ -30,7 +30,8 @@ pub fn words_after(text: &str, mark: &str) -> BTreeSet<String> {
 
 /// The names of the calls that a text declares or has bodies of, in C or in Rust.
 pub fn declared(text: &str) -> BTreeSet<String> {
-    let calls = words_after(text, " legend_").into_iter().map(|name| format!("legend_{name}"));
+    let names = [" legend_", "*legend_"].into_iter().flat_map(|mark| words_after(text, mark));
+    let calls = names.map(|name| format!("legend_{name}"));
     calls.filter(|name| text.contains(&format!("{name}("))).collect()
 }
 
