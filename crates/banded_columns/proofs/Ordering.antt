@@ -1,42 +1,44 @@
 -- What ascending and disjoint bands are: each starts below its end, none starts below the end of the one before, and so starts ascend. Bands that the
 -- user calls ordered are among them. Assumes nothing.
-use mathlib.Core.Path.{_≡_, refl, ap, _∙_}
-use mathlib.Core.Bool.{Bool, true, false, _&&_}
+use mathlib.Core.Path.{_≡_, ap, _∙_}
+use mathlib.Core.Bool.{Bool, _&&_}
 use mathlib.Core.List.{List, [], _∷_}
 use Prim.Native.Nat.{ℕ, zero, suc, _<_}
 use native.Mathlib.Omega.{arith}
 use lib.Dec.{T, not-T}
 use lib.Ieee.{lt, le}
 use lib.Ieee.Fits.{and-i, and-l, and-r}
+use Rattle.lists.specs.Each.{each}
 use Rattle.lists.specs.Tabulate.{tabulate}
+use Rattle.lists.proofs.Each.{and-and, and-true}
 use Rattle.floats.proofs.Order.{lt-le, lt-not-le, lt→le, lt-l, lt-r, not-lt}
 use Rattle.banded_columns.specs.declared.LegendBand.{LegendBand}
-use Rattle.banded_columns.specs.Order.{startsBelowEnd, startsAscend, clears, eachBand, eachAfter, eachNext, ascendingDisjoint, Ordered}
+use Rattle.banded_columns.specs.Order.{startsBelowEnd, startsAscend, clears, eachAfter, eachNext, ascendingDisjoint, Ordered}
 
 module _ (bands : List LegendBand) where
-  pub starts-below : T (ascendingDisjoint bands) → T (eachBand startsBelowEnd bands)
+  pub starts-below : T (ascendingDisjoint bands) → T (each startsBelowEnd bands)
   unfolding ascendingDisjoint
-  starts-below h = and-l (eachBand startsBelowEnd bands) (eachNext clears bands) h
+  starts-below h = and-l (each startsBelowEnd bands) (eachNext clears bands) h
 
   pub disjoint : T (ascendingDisjoint bands) → T (eachNext clears bands)
   unfolding ascendingDisjoint
-  disjoint h = and-r (eachBand startsBelowEnd bands) (eachNext clears bands) h
+  disjoint h = and-r (each startsBelowEnd bands) (eachNext clears bands) h
 
   pub ordered-disjoint : Ordered bands → T (ascendingDisjoint bands)
   unfolding ascendingDisjoint
-  ordered-disjoint o = and-i (eachBand startsBelowEnd bands) (eachNext clears bands) (o .starts) (o .disjoint)
+  ordered-disjoint o = and-i (each startsBelowEnd bands) (eachNext clears bands) (o .starts) (o .disjoint)
 
 -- a band that starts below its end is followed by one that does not start below that end
 pub end-start : (a b : LegendBand) → T (startsBelowEnd a) → T (startsBelowEnd b) → T (clears a b) → T (le (a .end) (b .start))
 end-start a b p q r = not-lt (b .start) (a .end) (lt-l (b .start) (b .end) q) (lt-r (a .start) (a .end) p) r
 
-after : (a : LegendBand) (bs : List LegendBand) → T (eachBand startsBelowEnd (a ∷ bs)) → T (eachAfter clears a bs) → T (eachAfter startsAscend a bs)
-unfolding eachBand eachAfter
+after : (a : LegendBand) (bs : List LegendBand) → T (each startsBelowEnd (a ∷ bs)) → T (eachAfter clears a bs) → T (eachAfter startsAscend a bs)
+unfolding each eachAfter
 after a [] q r = tt
 after a (b ∷ bs) q r =
-    let starts : T (startsBelowEnd a) = and-l (startsBelowEnd a) (eachBand startsBelowEnd (b ∷ bs)) q in
-    let later : T (eachBand startsBelowEnd (b ∷ bs)) = and-r (startsBelowEnd a) (eachBand startsBelowEnd (b ∷ bs)) q in
-    let e : T (le (a .end) (b .start)) = end-start a b starts (and-l (startsBelowEnd b) (eachBand startsBelowEnd bs) later)
+    let starts : T (startsBelowEnd a) = and-l (startsBelowEnd a) (each startsBelowEnd (b ∷ bs)) q in
+    let later : T (each startsBelowEnd (b ∷ bs)) = and-r (startsBelowEnd a) (each startsBelowEnd (b ∷ bs)) q in
+    let e : T (le (a .end) (b .start)) = end-start a b starts (and-l (startsBelowEnd b) (each startsBelowEnd bs) later)
     (and-l (clears a b) (eachAfter clears b bs) r) in
     let s : T (lt (a .start) (b .start)) = lt-le (a .start) (a .end) (b .start) starts e in
     and-i (startsAscend a b) (eachAfter startsAscend b bs)
@@ -48,28 +50,7 @@ unfolding eachNext
 disjoint-ascends [] d = tt
 disjoint-ascends (b ∷ bs) d = after b bs (starts-below (b ∷ bs) d) (disjoint (b ∷ bs) d)
 
--- ---- the tests of a list that is given by a rule: of each entry, and one entry more
-pub and-and : (a b c : Bool) → (a && (b && c)) ≡ ((a && b) && c)
-and-and true b c = refl
-and-and false b c = refl
-
-and-true : (a : Bool) → (a && true) ≡ a
-and-true true = refl
-and-true false = refl
-
-module _ (test : LegendBand → Bool) where
-  pub each-at : (n : ℕ) (f : ℕ → LegendBand) → T (eachBand test (tabulate n f)) → (k : ℕ) → k < n → T (test (f k))
-  unfolding tabulate eachBand
-  each-at zero f h k q = absurd (omega arith)
-  each-at (suc n) f h zero q = and-l (test (f 0)) (eachBand test (tabulate n (λ k. f (suc k)))) h
-  each-at (suc n) f h (suc k) q = each-at n (λ k. f (suc k)) (and-r (test (f 0)) (eachBand test (tabulate n (λ k. f (suc k)))) h) k (omega arith)
-
-  pub each-more : (n : ℕ) (f : ℕ → LegendBand) → eachBand test (tabulate (suc n) f) ≡ (eachBand test (tabulate n f) && test (f n))
-  unfolding tabulate eachBand
-  each-more zero f = and-true (test (f 0))
-  each-more (suc n) f =
-      ap (λ (b : Bool). test (f 0) && b) (each-more n (λ k. f (suc k))) ∙ and-and (test (f 0)) (eachBand test (tabulate n (λ k. f (suc k)))) (test (f (suc n)))
-
+-- ---- the tests of neighbours in a list that is given by a rule: of each entry, and one entry more
 module _ (test : LegendBand → LegendBand → Bool) where
   abbrev later : ℕ → (ℕ → LegendBand) → List LegendBand
   later n f = tabulate n (λ k. f (suc k))

@@ -4,6 +4,7 @@ use mathlib.Core.List.{List, [], _∷_}
 use lib.Dec.{T}
 use lib.Ieee.{lt}
 use lib.Ieee.Scale.{finite}
+use Rattle.lists.specs.Each.{each}
 use Rattle.banded_columns.specs.declared.LegendBand.{LegendBand}
 
 -- ---- of a band, and of a band and the one before it
@@ -21,11 +22,7 @@ startsAscend before b = not (lt (b .start) (before .start))
 abbrev pub clears : (before b : LegendBand) → Bool
 clears before b = not (lt (b .start) (before .end))
 
--- ---- of a list
-unfoldable pub eachBand : (LegendBand → Bool) → List LegendBand → Bool
-eachBand test [] = true
-eachBand test (b ∷ bs) = test b && eachBand test bs
-
+-- ---- of a list: of each band after the one before it
 unfoldable pub eachAfter : (LegendBand → LegendBand → Bool) → LegendBand → List LegendBand → Bool
 eachAfter test before [] = true
 eachAfter test before (b ∷ bs) = test before b && eachAfter test b bs
@@ -36,11 +33,11 @@ eachNext test (b ∷ bs) = eachAfter test b bs
 
 -- each band starts below its end, so that no bound is a NaN, and none starts below the end of the one before. Then starts ascend (proofs/Ordering.antt)
 unfoldable pub ascendingDisjoint : List LegendBand → Bool
-ascendingDisjoint bands = eachBand startsBelowEnd bands && eachNext clears bands
+ascendingDisjoint bands = each startsBelowEnd bands && eachNext clears bands
 
 -- in the user's words: finite, each starting below its end, ascending, without overlap
 pub record Ordered (bands : List LegendBand) : Type 0 where
-  pub finite : T (eachBand finiteBand bands)
-  pub starts : T (eachBand startsBelowEnd bands)
+  pub finite : T (each finiteBand bands)
+  pub starts : T (each startsBelowEnd bands)
   pub ascending : T (eachNext startsAscend bands)
   pub disjoint : T (eachNext clears bands)

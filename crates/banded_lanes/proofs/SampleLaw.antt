@@ -8,6 +8,7 @@ use mathlib.Core.List.{List, [], _∷_, _++_}
 use lib.Dec.{T, T-not, not-T}
 use lib.Ieee.{Float, binary32, lt, le, sub, isNan}
 use lib.Ieee.Fits.{and-i, and-l, and-r}
+use Rattle.lists.specs.Each.{each}
 use Rattle.floats.proofs.Order.{le-le, lt-le, lt-not-le, not-lt, not-le, lt→le, lt-l, le-l, le-r, le-refl-float}
 use Rattle.colormapper.specs.declared.UnmappableColors.{UnmappableColors}
 use Rattle.colormapper.specs.Tolerance.{E, within}
@@ -16,7 +17,7 @@ use Rattle.banded_columns.specs.Band.{holds, lastOf}
 use Rattle.banded_rule.specs.PlainRule.{plainColor}
 use Rattle.banded_lanes.specs.Edges.{edged}
 use Rattle.banded_rule.specs.forms.Steps.{firstColor, edgeColor}
-use Rattle.banded_columns.specs.Order.{startsBelowEnd, clears, eachBand, eachAfter, eachNext}
+use Rattle.banded_columns.specs.Order.{startsBelowEnd, clears, eachAfter, eachNext}
 use Rattle.banded_lanes.specs.Conditions.{wideBand, firstAndLast, LawfulBands}
 use Rattle.banded_rule.proofs.Forms.{edge-chain, plain-form}
 use Rattle.banded_columns.proofs.Ordering.{starts-below, disjoint, end-start}
@@ -274,16 +275,16 @@ early : (lo v : Float) (ps qs : List LegendBand) (nodata d : ℕ) → Chain lo (
 early lo v ps qs nodata d c h = same-in lo v ps nodata (front lo ps qs c) ∙ taken v ps qs nodata d h
 
 -- ---- a sound list is such a chain
-chain-of : (lo : Float) (b : LegendBand) (bs : List LegendBand) → T (le lo (b .start)) → T (eachBand startsBelowEnd (b ∷ bs)) → T (eachAfter clears b bs)
+chain-of : (lo : Float) (b : LegendBand) (bs : List LegendBand) → T (le lo (b .start)) → T (each startsBelowEnd (b ∷ bs)) → T (eachAfter clears b bs)
     → Chain lo (b ∷ bs)
-unfolding eachBand eachAfter
+unfolding each eachAfter
 chain-of lo b [] l q r = (l, lt→le (b .start) (b .end) (and-l (startsBelowEnd b) true q), tt)
 chain-of lo b (d ∷ bs) l q r =
-    let starts : T (startsBelowEnd b) = and-l (startsBelowEnd b) (eachBand startsBelowEnd (d ∷ bs)) q in
-    let later : T (eachBand startsBelowEnd (d ∷ bs)) = and-r (startsBelowEnd b) (eachBand startsBelowEnd (d ∷ bs)) q in (
+    let starts : T (startsBelowEnd b) = and-l (startsBelowEnd b) (each startsBelowEnd (d ∷ bs)) q in
+    let later : T (each startsBelowEnd (d ∷ bs)) = and-r (startsBelowEnd b) (each startsBelowEnd (d ∷ bs)) q in (
       l,
       lt→le (b .start) (b .end) starts,
-      chain-of (b .end) d bs (end-start b d starts (and-l (startsBelowEnd d) (eachBand startsBelowEnd bs) later) (and-l (clears b d) (eachAfter clears d bs) r))
+      chain-of (b .end) d bs (end-start b d starts (and-l (startsBelowEnd d) (each startsBelowEnd bs) later) (and-l (clears b d) (eachAfter clears d bs) r))
           later (and-r (clears b d) (eachAfter clears d bs) r),
     )
 
@@ -294,7 +295,7 @@ module _ (b : LegendBand) (bs : List LegendBand) (s : LawfulBands (b ∷ bs)) (u
       chain-of (b .start) b bs (le-refl-float (b .start) (lt-l (b .start) (b .end) first)) (starts-below (b ∷ bs) (s .ordered)) (disjoint (b ∷ bs) (s .ordered))
     where
       first : T (startsBelowEnd b)
-      first = unfold eachBand in and-l (startsBelowEnd b) (eachBand startsBelowEnd bs) (starts-below (b ∷ bs) (s .ordered))
+      first = unfold each in and-l (startsBelowEnd b) (each startsBelowEnd bs) (starts-below (b ∷ bs) (s .ordered))
 
   pub edges-law : T (not (isNan v)) → (i : Bool) → edged u b (lastOf b bs) (record { value = v; inside = i; color = laneIn (b ∷ bs) v (u .nodata) })
       ≡ plainColor (b ∷ bs) u v

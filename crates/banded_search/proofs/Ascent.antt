@@ -9,11 +9,12 @@ use native.Mathlib.Omega.{arith}
 use lib.Dec.{T}
 use lib.Ieee.{Float, nan, le}
 use lib.ListN.{getD}
+use Rattle.lists.proofs.Each.{each-at}
 use Rattle.floats.proofs.Order.{le-le, lt-le, lt→le}
 use Rattle.lists.specs.Tabulate.{tabulate}
 use Rattle.banded_columns.specs.declared.LegendBand.{LegendBand}
 use Rattle.banded_columns.specs.Order.{startsBelowEnd, clears, ascendingDisjoint}
-use Rattle.banded_columns.proofs.Ordering.{starts-below, disjoint, end-start, each-at, next-at}
+use Rattle.banded_columns.proofs.Ordering.{starts-below, disjoint, end-start, next-at}
 use Rattle.banded_rule.specs.forms.Columns.{bandAt, fromColumns}
 
 module _ (starts ends : List Float) where

@@ -6,10 +6,12 @@ use Prim.Native.Nat.{ℕ, zero, suc, _+_, _-_, _≤_, _<_}
 use native.Mathlib.Numerals.{add-one}
 use native.Mathlib.Omega.{arith}
 use lib.Ieee.{Float}
+use Rattle.lists.specs.Each.{each}
+use Rattle.lists.proofs.Each.{each-more}
 use Rattle.lists.specs.Tabulate.{tabulate}
 use Rattle.banded_columns.specs.declared.LegendBand.{LegendBand}
-use Rattle.banded_columns.specs.Order.{eachBand, eachAfter, eachNext}
-use Rattle.banded_columns.proofs.Ordering.{each-more, next-more}
+use Rattle.banded_columns.specs.Order.{eachAfter, eachNext}
+use Rattle.banded_columns.proofs.Ordering.{next-more}
 use Rattle.banded_rule.specs.forms.Columns.{bandAt, fromColumns}
 
 module _ (starts ends : List Float) (colors : List ℕ) where
@@ -19,11 +21,11 @@ module _ (starts ends : List Float) (colors : List ℕ) where
   abbrev bands : ℕ → List LegendBand
   bands = fromColumns starts ends colors
 
-  pub each-none : (test : LegendBand → Bool) → true ≡ eachBand test (bands 0)
-  unfolding fromColumns tabulate eachBand
+  pub each-none : (test : LegendBand → Bool) → true ≡ each test (bands 0)
+  unfolding fromColumns tabulate each
   each-none test = refl
 
-  pub each-band-more : (test : LegendBand → Bool) (i : ℕ) → (eachBand test (bands i) && test (f i)) ≡ eachBand test (bands (i + 1))
+  pub each-band-more : (test : LegendBand → Bool) (i : ℕ) → (each test (bands i) && test (f i)) ≡ each test (bands (i + 1))
   unfolding fromColumns
   each-band-more test i = rw (add-one i, each-more test i f)
 

@@ -6,8 +6,9 @@ ghost use mathlib.Core.List.{List};
 ghost use Prim.Native.Nat.{ℕ, _+_, _≤_};
 ghost use lib.Ieee.{nan, le};
 ghost use lib.ListN.{getD};
+ghost use Rattle.lists.specs.Each.{each};
 ghost use Rattle.lists.specs.Lanes.{LanesOf};
-ghost use Rattle.banded_columns.specs.Order.{startsBelowEnd, clears, eachBand, eachNext, ascendingDisjoint};
+ghost use Rattle.banded_columns.specs.Order.{startsBelowEnd, clears, eachNext, ascendingDisjoint};
 ghost use Rattle.banded_rule.specs.forms.Columns.{fromColumns};
 ghost use Rattle.banded_search.specs.forms.Indices.{IndicesInBounds, BandIndices};
 
@@ -22,7 +23,7 @@ pub fn ascending_disjoint(starts: &[f32; 64], ends: &[f32; 64], count: usize) ->
 
 fn start_below_ends(starts: &[f32; 64], ends: &[f32; 64], count: usize) -> bool
     requires { ⌜ count ≤ 64 ⌝ }
-    ensures { λ r. ⌜ ((colors : List ℕ) → r ≡ eachBand startsBelowEnd (fromColumns (now (starts .entry)) (now (ends .entry)) colors count)) ⌝ }
+    ensures { λ r. ⌜ ((colors : List ℕ) → r ≡ each startsBelowEnd (fromColumns (now (starts .entry)) (now (ends .entry)) colors count)) ⌝ }
 {
     let mut result = true;
     let mut i: usize = 0;

@@ -4,6 +4,7 @@ use mathlib.Core.Bool.{Bool, _&&_}
 use mathlib.Core.List.{List}
 use lib.Dec.{leb, eqb}
 use lib.ListN.{length}
+use Rattle.lists.specs.Each.{each}
 use Rattle.colormapper.specs.declared.MappingConfig.{MappingConfig}
 use Rattle.colormapper.specs.Settings.{orElse}
 use Rattle.banded.specs.Record.{bandedOf, counted}
@@ -16,7 +17,7 @@ use Rattle.legend.specs.Record.{kindNumber, kindNumbered, linearLegend, bandedL
 use Rattle.card_bytes.specs.Entries.{entriesOf, entriesIn}
 use Rattle.card_layout.specs.Fields.{Fields, bytesOfFields, fieldsIn}
 use Rattle.card_layout.specs.Settings.{flagsOf, settingsIn, settingsFit}
-use Rattle.card_layout.specs.Entries.{linearBytes, linearIn, bandBytes, bandIn, categoryBytes, categoryIn, boundsCanonical, each}
+use Rattle.card_layout.specs.Entries.{linearBytes, linearIn, bandBytes, bandIn, categoryBytes, categoryIn, boundsCanonical}
 use Rattle.card_layout.specs.Stored.{countedCategories, keysInOrder}
 
 -- ---- written

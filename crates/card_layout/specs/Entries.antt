@@ -1,7 +1,7 @@
 -- The entries of a card, by kind, written and read (docs/RULES.md, "Cards"). Definitions only.
 use Prim.Native.Nat.{ℕ, _+_}
-use mathlib.Core.Bool.{Bool, true, not, _&&_, _||_}
-use mathlib.Core.List.{List, [], _∷_, _++_}
+use mathlib.Core.Bool.{Bool, not, _&&_, _||_}
+use mathlib.Core.List.{List, _++_}
 use lib.Dec.{eqb}
 use lib.Ieee.{binary32, nanBits}
 use lib.ListN.{drop}
@@ -41,8 +41,3 @@ canonical bits = eqb bits 0x7FC00000 || not (nanBits binary32 bits)
 -- of the two bounds that entries start with
 unfoldable pub boundsCanonical : (entry : List ℕ) → Bool
 boundsCanonical entry = canonical (numberAt 0 4 entry) && canonical (numberAt 4 4 entry)
-
--- each of some passes a test
-unfoldable pub each : {A : Type 0} → (A → Bool) → List A → Bool
-each test [] = true
-each test (x ∷ xs) = test x && each test xs

@@ -11,11 +11,12 @@ ghost use mathlib.Core.Path.{_≡_};
 ghost use mathlib.Core.Bool.{true};
 ghost use Prim.Native.Nat.{_+_, _*_, _≤_};
 ghost use lib.ListN.{length, drop};
+ghost use Rattle.lists.specs.Each.{each};
 ghost use Rattle.legend.specs.declared.LegendKind.the-variants as kind;
 ghost use Rattle.card_bytes.specs.Numbers.{numberAt};
 ghost use Rattle.card_bytes.specs.Entries.{entriesIn};
 ghost use Rattle.card_layout.specs.Settings.{settingsFit};
-ghost use Rattle.card_layout.specs.Entries.{canonical, boundsCanonical, each};
+ghost use Rattle.card_layout.specs.Entries.{canonical, boundsCanonical};
 ghost use Rattle.card_layout.specs.Cards.{entriesFitIn, legendIn};
 ghost use Rattle.card_layout.specs.Refusals.{boundsRefusal, known, wellFormed, readRefusal};
 

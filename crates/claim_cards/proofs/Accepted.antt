@@ -9,6 +9,8 @@ use lib.Dec.{T, ltb, leb, eqb}
 use lib.Ieee.{binary32, fits}
 use lib.IntN.{ℤ, pos}
 use lib.ListN.{length, take, drop, replicate, length-replicate, length-map}
+use Rattle.lists.specs.Each.{each}
+use Rattle.lists.proofs.Each.{each-told}
 use Rattle.lists.specs.Padded.{padded}
 use Rattle.lists.proofs.Padding.{length-padded, take-padded}
 use Rattle.floats.specs.RampIndex.{nought}
@@ -37,14 +39,14 @@ use Rattle.card_bytes.proofs.Numbers.{Bytes-take, Bytes-drop, numberAt-below}
 use Rattle.card_bytes.proofs.Entries as entries
 use Rattle.card_layout.specs.Fields.{Fields, bytesOfFields, titleLength, titleIn, afterTitle, fieldsIn}
 use Rattle.card_layout.specs.Settings.{flagsOf, settingsIn, settingsFit}
-use Rattle.card_layout.specs.Entries.{bandBytes, bandIn, categoryBytes, categoryIn, boundsCanonical, each}
+use Rattle.card_layout.specs.Entries.{bandBytes, bandIn, categoryBytes, categoryIn, boundsCanonical}
 use Rattle.card_layout.specs.Stored.{keysInOrder, sameWords, tableOfKeys, inOrderIn, inOrder}
 use Rattle.card_layout.specs.Cards.{countIn, entriesFrom, fieldsOf, cardOf, entriesFitIn, legendFrom, fieldsFit, legendOf, legendIn}
 use Rattle.card_layout.specs.Refusals.{boundsRefusal, known, wellFormed, readRefusal, tooLong, writeRefusal}
 use Rattle.claim_cards.specs.Held.{Word, Key, HeldSettings, HeldLinear, HeldBand, HeldBanded, HeldCategoric, Held}
 use Rattle.claim_cards.proofs.Settings.{both, three, settings-held, flags-again, low-again, high-again}
 use Rattle.claim_cards.proofs.Fields.{kind-known, title-long, fields-again}
-use Rattle.claim_cards.proofs.Entries.{all-entries, each-told, linear-held, linear-again, band-held, band-again}
+use Rattle.claim_cards.proofs.Entries.{all-entries, linear-held, linear-again, band-held, band-again}
 use Rattle.claim_cards.proofs.Entries.{HeldCategory, category-held, category-again}
 use Rattle.claim_cards.proofs.Lists.{same-itself, counted-record, keys-recorded, colors-recorded, table-recorded}
 

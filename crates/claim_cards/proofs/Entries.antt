@@ -7,6 +7,7 @@ use native.Mathlib.Omega.{arith}
 use lib.Ieee.{Float}
 use lib.ListN.{length, take, drop, length-append, length-drop, take-append-drop}
 use lib.Seq.{take-add, drop-at}
+use Rattle.lists.specs.Each.{each}
 use Rattle.lists.specs.Tabulate.{tabulate}
 use Rattle.words.specs.Values.{floatOf, bitsOf, signedOf, unsignedOf}
 use Rattle.linear.specs.declared.Linear.{Linear}
@@ -16,7 +17,7 @@ use Rattle.card_bytes.specs.Numbers.{Bytes, bytesOf, numberAt}
 use Rattle.card_bytes.specs.Entries.{All, entriesOf, entriesIn}
 use Rattle.card_bytes.proofs.Numbers.{length-bytesOf, Bytes-drop, numberAt-front, numberAt-below, numberAt-drop, part-back}
 use Rattle.card_bytes.proofs.Entries.{length-entriesOf, length-entriesIn, entriesIn-none, entriesIn-first, entries-back, entries-again}
-use Rattle.card_layout.specs.Entries.{linearBytes, linearIn, bandBytes, bandIn, categoryBytes, categoryIn, canonical, boundsCanonical, each}
+use Rattle.card_layout.specs.Entries.{linearBytes, linearIn, bandBytes, bandIn, categoryBytes, categoryIn, canonical, boundsCanonical}
 use Rattle.claim_cards.specs.Held.{Word, Single, Key, HeldLinear, HeldBand}
 use Rattle.claim_cards.proofs.Values.{float-single, bits-word, bits-back, bits-canonical, bits-again, key-bits, key-back, key-again}
 use Rattle.claim_cards.proofs.Settings.{both}
@@ -34,7 +35,7 @@ module _ {A : Type 0} where
   unfolding entriesIn
   all-entries P w n read bytes b h = all-tabulated P n (λ k. read (drop (w * k) bytes)) (λ k q. h (drop (w * k) bytes) (Bytes-drop (w * k) bytes b))
 
-  -- what each entry that is written passes, and what each that is read has passed
+  -- what each entry that is written passes
   pub each-written : (w : ℕ) (write : A → List ℕ) (test : List ℕ → Bool) (P : A → Type 0) → ((x : A) → length (write x) ≡ w)
       → ((x : A) → P x → (rest : List ℕ) → test (write x ++ rest) ≡ true)
       → (xs : List A) → All P xs → each test (entriesIn w (length xs) (λ e. e) (entriesOf write xs)) ≡ true
@@ -46,13 +47,6 @@ module _ {A : Type 0} where
       ∙ ap₂ _&&_ (passes x (h .0) rest)
       (ap (λ (r : List ℕ). each test (entriesIn w (length xs) (λ e. e) r)) (drop-at (write x) rest w (size x))
       ∙ each-written w write test P size passes xs (h .1))
-
-pub each-told : (test : List ℕ → Bool) (n : ℕ) (f : ℕ → List ℕ) → each test (tabulate n f) ≡ true → (k : ℕ) → k < n → test (f k) ≡ true
-unfolding tabulate each
-each-told test zero f e k h = absurd (omega arith)
-each-told test (suc n) f e zero h = both (test (f zero)) (each test (tabulate n (λ k. f (suc k)))) e .0
-each-told test (suc n) f e (suc k) h =
-    each-told test n (λ k. f (suc k)) (both (test (f zero)) (each test (tabulate n (λ k. f (suc k)))) e .1) k (omega arith)
 
 -- ---- the two bounds that linear and banded entries start with
 abbrev bounds : (start end : Float) → List ℕ

@@ -9,6 +9,7 @@ use lib.Dec.{ltb, eqb}
 use lib.IntN.{pos}
 use lib.ListN.{length, take, getD}
 use lib.Seq.{length-take-le}
+use Rattle.lists.specs.Each.{each}
 use Rattle.lists.specs.Padded.{padded}
 use Rattle.lists.proofs.Tabulated.{length-tabulate}
 use Rattle.lists.proofs.Padding.{take-padded}
@@ -36,7 +37,7 @@ use Rattle.legend.proofs.Stored.{neither, bands-stored, categories-stored}
 use Rattle.card_bytes.specs.Entries.{All, entriesOf, entriesIn}
 use Rattle.card_bytes.proofs.Entries.{length-entriesOf, entries-back}
 use Rattle.card_layout.specs.Fields.{Fields, titleIn, fieldsIn}
-use Rattle.card_layout.specs.Entries.{linearBytes, bandBytes, bandIn, categoryBytes, categoryIn, boundsCanonical, each}
+use Rattle.card_layout.specs.Entries.{linearBytes, bandBytes, bandIn, categoryBytes, categoryIn, boundsCanonical}
 use Rattle.card_layout.specs.Stored.{countedCategories, keysInOrder, sameWords, tableOfKeys, inOrderIn, inOrder, rebuiltIn, rebuilt}
 use Rattle.card_layout.specs.Cards.{countIn, entriesFrom, fieldsOf, cardOf, entriesFitIn, legendFrom, fieldsFit, legendOf, legendIn}
 use Rattle.card_layout.specs.Refusals.{rangeRefusalIn, boundsRefusal, wellFormed, readRefusal, tooLong, writeRefusal}

@@ -5,13 +5,14 @@ use mathlib.Core.List.{[], _∷_}
 use Prim.Native.Nat.{ℕ}
 use lib.Ieee.{Float, inf, binary32, lt, le, add, sub, ofInt, ofBits, isNan}
 use lib.ListN.{replicate}
+use Rattle.lists.specs.Each.{each}
 use Rattle.floats.specs.RampIndex.{nought}
 use Rattle.lists.specs.Padded.{padded}
 use Rattle.colormapper.specs.Settings.{noSettings}
 use Rattle.colormapper.specs.Tolerance.{E}
 use Rattle.banded_columns.specs.declared.LegendBand.{LegendBand}
 use Rattle.banded_columns.specs.Band.{lastOf}
-use Rattle.banded_columns.specs.Order.{eachBand, eachAfter, eachNext, ascendingDisjoint}
+use Rattle.banded_columns.specs.Order.{eachAfter, eachNext, ascendingDisjoint}
 use Rattle.banded_lanes.specs.Conditions.{firstAndLast}
 use Rattle.banded_columns.proofs.Ordering.{ordered-disjoint}
 use Rattle.banded.specs.Record.{bandedOf, counted}
@@ -33,20 +34,20 @@ abbrev band : (start end : Float) (color : ℕ) → LegendBand
 band start end color = record { start = start; end = end; color = color }
 
 pub banded-met : Asked (bandedLegend (bandedOf (band (integer 0) (integer 1) 1 ∷ band (integer 2) (integer 3) 2 ∷ [])) noSettings)
-unfolding bandedOf padded eachBand eachAfter eachNext firstAndLast lastOf add sub lt le isNan ofInt ofBits
+unfolding bandedOf padded each eachAfter eachNext firstAndLast lastOf add sub lt le isNan ofInt ofBits
 banded-met = (record { finite = tt; starts = tt; ascending = tt; disjoint = tt }, tt)
 
 pub narrowest-met : Asked (bandedLegend (bandedOf (band (integer 0) E 1 ∷ band E (add binary32 E E) 2 ∷ [])) noSettings)
-unfolding bandedOf padded eachBand eachAfter eachNext firstAndLast lastOf add sub lt le isNan ofInt ofBits
+unfolding bandedOf padded each eachAfter eachNext firstAndLast lastOf add sub lt le isNan ofInt ofBits
 narrowest-met = (record { finite = tt; starts = tt; ascending = tt; disjoint = tt }, tt)
 
 pub empty-met : Asked (bandedLegend (bandedOf []) noSettings)
-unfolding bandedOf padded eachBand eachNext firstAndLast
+unfolding bandedOf padded each eachNext firstAndLast
 empty-met = (record { finite = tt; starts = tt; ascending = tt; disjoint = tt }, tt)
 
 -- ---- bands that the user does not ask for: from -infinity to 0, and from 0 to infinity
 pub infinite-met : Lawful (bandedLegend (bandedOf (band (inf true) (integer 0) 1 ∷ band (integer 0) (inf false) 2 ∷ [])) noSettings)
-unfolding bandedOf padded ascendingDisjoint eachBand eachAfter eachNext firstAndLast lastOf add sub lt le isNan ofInt ofBits
+unfolding bandedOf padded ascendingDisjoint each eachAfter eachNext firstAndLast lastOf add sub lt le isNan ofInt ofBits
 infinite-met = record { ordered = tt; wide = tt }
 
 -- ---- every categoric legend

@@ -6,12 +6,13 @@ use mathlib.Core.List.{List, [], _∷_}
 use lib.Dec.{eqb}
 use lib.Ieee.{Float, nan, inf, binary32, add}
 use lib.ListN.{getD}
+use Rattle.lists.specs.Each.{each}
 use Rattle.colormapper.specs.declared.UnmappableColors.{UnmappableColors}
 use Rattle.banded_columns.specs.declared.LegendBand.{LegendBand}
 use Rattle.banded_rule.specs.PlainRule.{plainColor}
 use Rattle.banded_lanes.specs.LaneRule.{laneColors}
 use Rattle.colormapper.specs.Tolerance.{E}
-use Rattle.banded_columns.specs.Order.{startsBelowEnd, clears, eachBand, eachNext}
+use Rattle.banded_columns.specs.Order.{startsBelowEnd, clears, eachNext}
 use Rattle.banded_lanes.specs.Conditions.{wideBand, firstAndLast}
 use Rattle.claim_examples.specs.Decimals.{integer, decimal}
 
@@ -22,7 +23,7 @@ pub record Conditions : Type 0 where
   pub wide : Bool
 
 abbrev pub conditionsOf : List LegendBand → Conditions
-conditionsOf bands = record { starts = eachBand startsBelowEnd bands; disjoint = eachNext clears bands; wide = firstAndLast wideBand bands }
+conditionsOf bands = record { starts = each startsBelowEnd bands; disjoint = eachNext clears bands; wide = firstAndLast wideBand bands }
 
 abbrev pub sameBool : Bool → Bool → Bool
 sameBool true b = b

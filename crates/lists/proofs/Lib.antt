@@ -4,3 +4,4 @@ pub mod Padding
 pub mod Filling
 pub mod LanesOf
 pub mod Entries
+pub mod Each

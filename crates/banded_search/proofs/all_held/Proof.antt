@@ -8,7 +8,7 @@ use lib.Ieee.{lt, le, nan}
 use lib.ListN.{getD}
 use Rattle.banded_lanes.proofs.Chunk.{below-more}
 use Rattle.banded_lanes.specs.forms.Scanning.{allBelow}
-use Rattle.banded_columns.proofs.Ordering.{and-and}
+use Rattle.lists.proofs.Each.{and-and}
 use Rattle.banded_search.specs.forms.Indices.{heldAt}
 use Rattle.banded_search.proofs.all_held.Statement.{statement}
 use Rattle.banded_search.proofs.all_held.Tie as tie

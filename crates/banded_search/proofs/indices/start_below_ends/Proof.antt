@@ -5,14 +5,15 @@ use mathlib.Core.Bool.{Bool, _&&_}
 use mathlib.Core.List.{List}
 use mathlib.Core.Path.{_≡_, ap, _∙_}
 use native.Mathlib.Omega.{arith}
-use Rattle.banded_columns.specs.Order.{startsBelowEnd, eachBand}
+use Rattle.lists.specs.Each.{each}
+use Rattle.banded_columns.specs.Order.{startsBelowEnd}
 use Rattle.banded_rule.specs.forms.Columns.{bandAt, fromColumns}
 use Rattle.banded_search.proofs.ColumnTests.{each-none, each-band-more}
 use Rattle.banded_search.proofs.indices.start_below_ends.Statement.{statement}
 use Rattle.banded_search.proofs.indices.start_below_ends.Tie as tie
 
 abbrev Inv-loop : tie.InvT-loop
-Inv-loop starts ends count result₀ i₀ result i = (i ≤ count) × ((colors : List ℕ) → result ≡ eachBand startsBelowEnd (fromColumns starts ends colors i))
+Inv-loop starts ends count result₀ i₀ result i = (i ≤ count) × ((colors : List ℕ) → result ≡ each startsBelowEnd (fromColumns starts ends colors i))
 
 abbrev μ-loop : tie.MeasureT-loop
 μ-loop starts ends count result₀ i₀ result i = count - i
@@ -40,7 +41,7 @@ returns c =
     let l = c .before in
     let a = l .before .args in
     let whole : l .loop .i ≡ a .count = omega arith in
-    λ colors. l .loop .inv .1 colors ∙ ap (λ (n : ℕ). eachBand startsBelowEnd (fromColumns (a .starts .now) (a .ends .now) colors n)) whole
+    λ colors. l .loop .inv .1 colors ∙ ap (λ (n : ℕ). each startsBelowEnd (fromColumns (a .starts .now) (a .ends .now) colors n)) whole
 
 pub start-below-ends-spec : {M : Type 1} → statement M
 start-below-ends-spec =

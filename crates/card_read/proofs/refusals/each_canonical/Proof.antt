@@ -7,9 +7,9 @@ use Prim.Native.Nat.{ℕ, _*_, _-_, _≤_, _<_}
 use mathlib.Core.Path.{_≡_, sym, _∙_}
 use mathlib.Core.Bool.{true}
 use lib.ListN.{drop}
+use Rattle.lists.proofs.Each.{each-pass, one-fails}
 use Rattle.card_bytes.specs.Entries.{entriesIn}
 use Rattle.card_layout.specs.Entries.{boundsCanonical}
-use Rattle.card_read.proofs.Canonical.{each-pass, one-fails}
 use Rattle.card_read.proofs.refusals.each_canonical.Statement.{statement}
 use Rattle.card_read.proofs.refusals.each_canonical.Tie as tie
 
