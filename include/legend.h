@@ -53,7 +53,6 @@ enum {
     LEGEND_CARD_UNKNOWN = 18,
     LEGEND_CARD_MALFORMED = 19,
     LEGEND_CARD_TOO_LONG = 20,
-    LEGEND_TALLY_FULL = 21,
     /* This interface's own, before any of the others: the flags of settings or a legend, then the kind, then the flag of
      * a nodata value. */
     LEGEND_BAD_FLAG = 100, /* a flag that is neither 0 nor 1 */
@@ -103,19 +102,13 @@ LegendRamp legend_ramp_from_list(const uint32_t *colors, size_t count);
 /* A palette spread over a ramp. Refused: 6. */
 LegendRamp legend_ramp_from_palette(size_t number);
 
-/* An entry of a ramp, 0 to 255: `inside` is 1 where a fraction has one, else 0 with the entry 0. */
-typedef struct LegendEntry {
-    size_t entry;
-    uint32_t inside;
-} LegendEntry;
-
-/* What a fraction is looked up as in any ramp: entry fraction * 255, to the nearest, halves up. None outside 0 to 1, and
- * for NaN. */
-LegendEntry legend_get_entry(float fraction);
+/* The ramp's colour at a fraction: entry fraction * 255, to the nearest, halves up. TRANSPARENT outside 0 to 1, and for
+ * NaN. */
+uint32_t legend_get_color(const uint32_t ramp[256], float fraction);
 
 /* The same by the rule of lane painting: entry floor(fraction * 255 + 0.5), the sum rounded to float, at most 255. The
  * two differ at one fraction, 65,793 / 2^25: entry 0 there, and entry 1 here. */
-LegendEntry legend_get_entry_simd(float fraction);
+uint32_t legend_get_color_simd(const uint32_t ramp[256], float fraction);
 
 /* ---- Keys ---- */
 
@@ -248,38 +241,6 @@ LegendMade legend_create_categoric_for_value_range(const uint32_t *colors, size_
 LegendMade legend_create_categoric_for_value_range_from_ramp(const uint32_t ramp[256], int64_t start, int64_t end,
                                                              LegendSettings settings);
 
-/* ---- Rules ---- */
-
-/* Which rule gave a sample its colour, painted plainly. docs/RULES.md, "Rules", says which samples each is for. */
-enum {
-    LEGEND_RULE_NODATA = 0,
-    LEGEND_RULE_RAMP_ENTRY = 1, /* number: the entry's, from 0 */
-    LEGEND_RULE_RAMP_OUTSIDE = 2,
-    LEGEND_RULE_BAND = 3, /* number: the band's, from 0 */
-    LEGEND_RULE_LOWER_EDGE = 4,
-    LEGEND_RULE_UPPER_EDGE = 5,
-    LEGEND_RULE_LOW = 6,
-    LEGEND_RULE_HIGH = 7,
-    LEGEND_RULE_GAP = 8,
-    LEGEND_RULE_CATEGORY = 9,
-    LEGEND_RULE_TABLE_GAP = 10,
-    LEGEND_RULE_UNKNOWN = 11,
-    LEGEND_RULES = 12 /* how many there are */
-};
-
-/* A rule's name; the empty text for a number from 12 on. */
-static inline const char *legend_rule_name(uint32_t rule) {
-    static const char *const names[LEGEND_RULES] = {
-        "nodata", "ramp entry", "ramp outside",     "band",     "lower edge", "upper edge",
-        "low",    "high",       "gap between bands", "category", "table gap",  "unknown category"};
-    return rule < LEGEND_RULES ? names[rule] : "";
-}
-
-/* How many samples each rule gave their colour: counts[LEGEND_RULE_GAP] are those in gaps between bands. */
-typedef struct LegendTally {
-    uint64_t counts[LEGEND_RULES];
-} LegendTally;
-
 /* ---- Uses of a legend ----
  *
  * Each is refused by 100 for a flag of the legend, by 101 for its kind, by 100 for `nodata_given` where there is one,
@@ -315,40 +276,31 @@ static inline LegendView legend_view(const LegendRecord *legend) {
     legend_view(legend), (legend)->banded, (legend)->linear.cmap, (legend)->categoric.keys,             \
         (legend)->categoric.colors, (legend)->categoric.lookup
 
-/* The colour of one sample, its rule, and the number of the ramp's entry or of the band, 0 for other rules. All 0 beside a
- * refusal. */
-typedef struct LegendPixel {
-    LegendAnswer answer;
-    uint32_t color;
-    uint32_t rule;
-    size_t number;
-} LegendPixel;
-
 /* The colour of one sample, by the rule of plain painting. */
-LegendPixel legend_view_color_for_f32(
+LegendColor legend_view_color_for_f32(
     LegendView view, LegendBanded banded, const uint32_t cmap[256], const int64_t keys[256],
     const uint32_t colors[256], const uint32_t lookup[513], float value,
     uint32_t nodata_given, float nodata);
-LegendPixel legend_view_color_for_u8(
+LegendColor legend_view_color_for_u8(
     LegendView view, LegendBanded banded, const uint32_t cmap[256], const int64_t keys[256],
     const uint32_t colors[256], const uint32_t lookup[513], uint8_t value,
     uint32_t nodata_given, uint8_t nodata);
-LegendPixel legend_view_color_for_i16(
+LegendColor legend_view_color_for_i16(
     LegendView view, LegendBanded banded, const uint32_t cmap[256], const int64_t keys[256],
     const uint32_t colors[256], const uint32_t lookup[513], int16_t value,
     uint32_t nodata_given, int16_t nodata);
 
-static inline LegendPixel legend_color_for_f32(const LegendRecord *legend, float value, uint32_t nodata_given,
+static inline LegendColor legend_color_for_f32(const LegendRecord *legend, float value, uint32_t nodata_given,
                                                float nodata) {
     return legend_view_color_for_f32(LEGEND_VIEW(legend), value, nodata_given, nodata);
 }
 
-static inline LegendPixel legend_color_for_u8(const LegendRecord *legend, uint8_t value, uint32_t nodata_given,
+static inline LegendColor legend_color_for_u8(const LegendRecord *legend, uint8_t value, uint32_t nodata_given,
                                               uint8_t nodata) {
     return legend_view_color_for_u8(LEGEND_VIEW(legend), value, nodata_given, nodata);
 }
 
-static inline LegendPixel legend_color_for_i16(const LegendRecord *legend, int16_t value, uint32_t nodata_given,
+static inline LegendColor legend_color_for_i16(const LegendRecord *legend, int16_t value, uint32_t nodata_given,
                                                int16_t nodata) {
     return legend_view_color_for_i16(LEGEND_VIEW(legend), value, nodata_given, nodata);
 }
@@ -381,49 +333,6 @@ static inline LegendAnswer legend_paint_u8(const LegendRecord *legend, const uin
 static inline LegendAnswer legend_paint_i16(const LegendRecord *legend, const int16_t *src, size_t src_length,
                                             uint32_t nodata_given, int16_t nodata, uint32_t *out, size_t out_length) {
     return legend_view_paint_i16(LEGEND_VIEW(legend), src, src_length, nodata_given, nodata, out, out_length);
-}
-
-/* A tally with a raster added; beside a refusal the one that was given. */
-typedef struct LegendTallied {
-    LegendAnswer answer;
-    LegendTally tally;
-} LegendTallied;
-
-/* Plain painting with a tally: out is that of plain painting, and each count of the tally grows by the number of samples
- * that its rule gave their colour, all twelve together by src_length. Beside a refusal out and the tally are as they were.
- * Refused: 13; 21 where some count plus src_length does not fit 64 bits. out overlaps neither src nor the legend. */
-LegendTallied legend_view_paint_tallied_f32(
-    LegendView view, LegendBanded banded, const uint32_t cmap[256], const int64_t keys[256],
-    const uint32_t colors[256], const uint32_t lookup[513], const float *src,
-    size_t src_length, uint32_t nodata_given, float nodata, uint32_t *out, size_t out_length, LegendTally tally);
-LegendTallied legend_view_paint_tallied_u8(
-    LegendView view, LegendBanded banded, const uint32_t cmap[256], const int64_t keys[256],
-    const uint32_t colors[256], const uint32_t lookup[513], const uint8_t *src,
-    size_t src_length, uint32_t nodata_given, uint8_t nodata, uint32_t *out, size_t out_length, LegendTally tally);
-LegendTallied legend_view_paint_tallied_i16(
-    LegendView view, LegendBanded banded, const uint32_t cmap[256], const int64_t keys[256],
-    const uint32_t colors[256], const uint32_t lookup[513], const int16_t *src,
-    size_t src_length, uint32_t nodata_given, int16_t nodata, uint32_t *out, size_t out_length, LegendTally tally);
-
-static inline LegendTallied legend_paint_tallied_f32(const LegendRecord *legend, const float *src, size_t src_length,
-                                                     uint32_t nodata_given, float nodata, uint32_t *out,
-                                                     size_t out_length, LegendTally tally) {
-    return legend_view_paint_tallied_f32(LEGEND_VIEW(legend), src, src_length, nodata_given, nodata, out, out_length,
-                                         tally);
-}
-
-static inline LegendTallied legend_paint_tallied_u8(const LegendRecord *legend, const uint8_t *src, size_t src_length,
-                                                     uint32_t nodata_given, uint8_t nodata, uint32_t *out,
-                                                     size_t out_length, LegendTally tally) {
-    return legend_view_paint_tallied_u8(LEGEND_VIEW(legend), src, src_length, nodata_given, nodata, out, out_length,
-                                         tally);
-}
-
-static inline LegendTallied legend_paint_tallied_i16(const LegendRecord *legend, const int16_t *src, size_t src_length,
-                                                     uint32_t nodata_given, int16_t nodata, uint32_t *out,
-                                                     size_t out_length, LegendTally tally) {
-    return legend_view_paint_tallied_i16(LEGEND_VIEW(legend), src, src_length, nodata_given, nodata, out, out_length,
-                                         tally);
 }
 
 /* Painting in 4, 8 or 16 lanes: whole chunks by the rule of lanes, what is left of the raster plainly. A categoric legend

@@ -15,9 +15,7 @@ use Rattle.colormapper.specs.declared.UnmappableColors.{UnmappableColors}
 use Rattle.colormapper.specs.Tolerance.{within}
 use Rattle.banded_columns.specs.declared.LegendBand.{LegendBand}
 use Rattle.banded_columns.specs.Band.{holds, last_of}
-use Rattle.colormapper.specs.declared.Rule.{Rule}
-use Rattle.colormapper.specs.declared.Rule.TheVariants.{Band, LowerEdge, UpperEdge, Low, High, Gap}
-use Rattle.colormapper.specs.Rule.{rule_color}
+use Rattle.colormapper.specs.Rule.{Rule, band, lower_edge, upper_edge, low, high, gap, rule_color}
 use Rattle.banded_rule.specs.PlainRule.{first_band, edges, plain_rule, banded_rule_colors, plain_color}
 use Rattle.banded_rule.specs.forms.Columns.{band_at, from_columns}
 use Rattle.banded_rule.specs.forms.Steps.{first_color, edge_color}
@@ -25,7 +23,7 @@ use Rattle.banded_rule.specs.forms.Steps.{first_color, edge_color}
 abbrev colors : List LegendBand → List ℕ
 colors = map (λ (b : LegendBand). b.color)
 
-pub last_color_lem : (b : LegendBand) (bs : List LegendBand) → last_or b.color (colors bs) ≡ (last_of b bs).color
+last_color_lem : (b : LegendBand) (bs : List LegendBand) → last_or b.color (colors bs) ≡ (last_of b bs).color
 unfolding last_of
 last_color_lem b [] = refl
 last_color_lem b (c ∷ bs) = last_color_lem c bs
@@ -33,7 +31,7 @@ last_color_lem b (c ∷ bs) = last_color_lem c bs
 -- the edges' colours: those of the first and the last band
 module _ (u : UnmappableColors) where
   edge_of : (b l : LegendBand) (bs : List LegendBand) (w x y z : Bool) → last_of b bs ≡ l →
-      rule_color (banded_rule_colors (b ∷ bs) u) (cond w LowerEdge (cond x Low (cond y UpperEdge (cond z High Gap))))
+      rule_color (banded_rule_colors (b ∷ bs) u) (cond w lower_edge (cond x low (cond y upper_edge (cond z high gap))))
       ≡ cond w b.color (cond x u.low (cond y l.color (cond z u.high u.nodata)))
   edge_of b l bs true x y z e = refl
   edge_of b l bs false true y z e = refl
@@ -69,7 +67,7 @@ module _ (u : UnmappableColors) where
       here = let e : k ≡ k + 0 = omega arith in ap (λ (n : ℕ). get_or (colors all) n 0) e ∙ h 0
 
       go : (t : Bool) → rule_color (banded_rule_colors all u) (first_band (suc k) bs v o) ≡ first_color bs v (rule_color (banded_rule_colors all u) o)
-          → rule_color (banded_rule_colors all u) (cond t (Band k) (first_band (suc k) bs v o))
+          → rule_color (banded_rule_colors all u) (cond t (band k) (first_band (suc k) bs v o))
           ≡ cond t b.color (first_color bs v (rule_color (banded_rule_colors all u) o))
       go true e = here
       go false e = e
@@ -140,32 +138,3 @@ module _ (starts ends : List Float) (colors : List ℕ) where
     pub first_end : count ≤ i → first_color (drop i (bands count)) v o ≡ o
     unfolding first_color
     first_end h = ap (λ (bs : List LegendBand). first_color bs v o) (drop-end count i h)
-
-  -- ---- the same for the rule: the bands, then the edges; the number of the first band that holds a value, from the one at i on
-  pub rule_none : (count : ℕ) (v : Float) → count ≡ 0 → plain_rule (bands count) v ≡ Gap
-  unfolding from_columns tabulate plain_rule
-  rule_none count v e = ap (λ (n : ℕ). plain_rule (bands n) v) e
-
-  pub rule_packed : (count : ℕ) (v : Float) → 0 < count → plain_rule (bands count) v ≡ first_band 0 (bands count) v (edges (f 0) (f (count - 1)) v)
-  unfolding from_columns tabulate plain_rule
-  rule_packed zero v h = absurd (omega arith)
-  rule_packed (suc n) v h = ap (λ (l : LegendBand). first_band 0 (f 0 ∷ tabulate n (λ k. f (suc k))) v (edges (f 0) l v)) (last_is n)
-
-  module _ (count i : ℕ) (v : Float) (o : Rule) where
-    band_at_lem : {b : LegendBand} → i < count → b ≡ f i → first_band i (drop i (bands count)) v o ≡ cond (holds b v) (Band i)
-        (first_band (i + 1) (drop (i + 1) (bands count)) v o)
-    unfolding first_band
-    band_at_lem {b} h e =
-        ap (λ (bs : List LegendBand). first_band i bs v o) (drop-band count i h)
-        ∙ ap₂ (λ (a : LegendBand) (m : ℕ). cond (holds a v) (Band i) (first_band m (drop (i + 1) (bands count)) v o)) (sym e) (sym (add-one i))
-
-    pub band_held : {b : LegendBand} → i < count → b ≡ f i → holds b v ≡ true → first_band i (drop i (bands count)) v o ≡ Band i
-    band_held {b} h e t = band_at_lem h e ∙ ap (λ (x : Bool). cond x (Band i) (first_band (i + 1) (drop (i + 1) (bands count)) v o)) t
-
-    pub band_passed : {b : LegendBand} → i < count → b ≡ f i → holds b v ≡ false → first_band i (drop i (bands count)) v o
-        ≡ first_band (i + 1) (drop (i + 1) (bands count)) v o
-    band_passed {b} h e t = band_at_lem h e ∙ ap (λ (x : Bool). cond x (Band i) (first_band (i + 1) (drop (i + 1) (bands count)) v o)) t
-
-    pub band-end : count ≤ i → first_band i (drop i (bands count)) v o ≡ o
-    unfolding first_band
-    band-end h = ap (λ (bs : List LegendBand). first_band i bs v o) (drop-end count i h)

@@ -1,4 +1,4 @@
-// The rule and the colour of a sample by a list of bands, plainly (docs/RULES.md, "Banded").
+// The colour of a sample by a list of bands, plainly (docs/RULES.md, "Banded").
 //
 // A list comes as three arrays and a count: an array of records cannot be lent, and one by value would be copied for each
 // sample. Every function here asks for a count of at most 64: its callers have refused a larger one (16) before.
@@ -8,12 +8,12 @@ ghost use Rattle.lists.specs.Lanes.{Lanes};
 ghost use Rattle.colormapper.specs.Tolerance.{within};
 ghost use Rattle.banded_columns.specs.Band.{holds};
 ghost use Rattle.banded_rule.specs.forms.Columns.{band_at, from_columns};
-ghost use Rattle.banded_rule.specs.PlainRule.{edges, plain_rule, plain_color};
+ghost use Rattle.banded_rule.specs.PlainRule.{plain_color};
 ghost use Rattle.banded_rule.specs.forms.Steps.{first_color, edge_color};
 
 use banded::Banded;
 use banded_columns::LegendBand;
-use colormapper::{Rule, UnmappableColors};
+use colormapper::UnmappableColors;
 
 // ---- the plain rule
 
@@ -45,52 +45,6 @@ pub fn color_for_numeric_value(
     edge_color(first, last, u, value)
 }
 
-// Which rule a mappable sample falls under.
-pub fn rule_for_numeric_value(
-    starts: &[f32; 64],
-    ends: &[f32; 64],
-    colors: &[u32; 64],
-    count: usize,
-    value: f32,
-) -> Rule
-    requires { count ≤ 64 }
-    ensures { result ≡ plain_rule (from_columns starts.now ends.now colors.now count) value }
-{
-    if count == 0 {
-        return Rule::Gap;
-    }
-    let mut i: usize = 0;
-    while i < count {
-        let band = band_at(starts, ends, colors, i);
-        if band.holds(value) {
-            return Rule::Band(i);
-        }
-        i += 1;
-    }
-    let first = band_at(starts, ends, colors, 0);
-    let last = band_at(starts, ends, colors, count - 1);
-    edge_rule(first, last, value)
-}
-
-// The rule of a sample that no band holds.
-fn edge_rule(first: LegendBand, last: LegendBand, value: f32) -> Rule
-    ensures { result ≡ edges first last value }
-{
-    if is_within(first.start, value) {
-        return Rule::LowerEdge;
-    }
-    if value < first.start {
-        return Rule::Low;
-    }
-    if is_within(last.end, value) {
-        return Rule::UpperEdge;
-    }
-    if value > last.end {
-        return Rule::High;
-    }
-    Rule::Gap
-}
-
 // The colours of sixteen samples at once.
 pub fn colors_for_numeric_values(
     starts: &[f32; 64],
@@ -114,7 +68,7 @@ pub fn colors_for_numeric_values(
 
 // The colour of the first band that holds each sample: from the last band to the first, each overwrites the samples that it
 // holds, so that no sample has to keep whether it was found.
-pub fn first_colors(
+fn first_colors(
     starts: &[f32; 64],
     ends: &[f32; 64],
     colors: &[u32; 64],

@@ -1,5 +1,4 @@
 pub mod Colors
-pub mod Entries
 pub mod Keys
 pub mod Ramps
 pub mod Uses

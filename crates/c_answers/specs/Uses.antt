@@ -1,28 +1,21 @@
--- The colour of a sample and its rule, the whole range of values and the list of colours as C reads them. What the call's own arguments are refused by comes first.
+-- The colour of a sample, the whole range of values and the list of colours as C reads them. What the call's own arguments are refused by comes first.
 -- Definitions only.
 use Rattle.std.specs.Prelude.{replicate}
 use Rattle.floats.specs.RampIndex.{nought}
 use Rattle.refusal.specs.declared.Answer.{Answer}
 use Rattle.refusal.specs.Outcome.{if_done, first_of}
-use Rattle.colormapper.specs.Rule.{rule_number, rule_index}
 use Rattle.legend_range.specs.declared.TotalRange.{TotalRange}
 use Rattle.legend_range.specs.ValueRanges.{range_answer, range_values}
 use Rattle.legend_pixel.specs.declared.PixelColor.{PixelColor}
-use Rattle.legend_pixel.specs.Values.{pixel_answer, pixel_word, pixel_rule}
+use Rattle.legend_pixel.specs.Values.{pixel_answer, pixel_word}
 use Rattle.legend_apply.specs.declared.ColorList.{ColorList}
-use Rattle.c_answers.specs.declared.uses.LegendPixel.{LegendPixel}
+use Rattle.c_answers.specs.declared.colors.LegendColor.{LegendColor}
 use Rattle.c_answers.specs.declared.uses.LegendValueRange.{LegendValueRange}
 use Rattle.c_answers.specs.declared.uses.LegendColorList.{LegendColorList}
 use Rattle.c_types.specs.Answers.{answer_to_c}
 
-unfoldable pub pixel_to_c : (first : Answer) → PixelColor → LegendPixel
-pixel_to_c first p =
-    record {
-      answer = answer_to_c (first_of first (pixel_answer p));
-      color = if_done first (pixel_word p) 0;
-      rule = if_done first (rule_number (pixel_rule p)) 0;
-      number = if_done first (rule_index (pixel_rule p)) 0;
-    }
+unfoldable pub pixel_to_c : (first : Answer) → PixelColor → LegendColor
+pixel_to_c first p = record { answer = answer_to_c (first_of first (pixel_answer p)); color = if_done first (pixel_word p) 0 }
 
 unfoldable pub range_to_c : (first : Answer) → TotalRange → LegendValueRange
 range_to_c first r =

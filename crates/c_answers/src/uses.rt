@@ -1,23 +1,14 @@
-// What a legend is used for: the colour of a sample and its rule, the whole range of its values, the list of its colours.
+// What a legend is used for: the colour of a sample, the whole range of its values, the list of its colours.
 ghost use Rattle.std.specs.Prelude.{◌≡◌};
 ghost use Rattle.c_answers.specs.Uses.{pixel_to_c, range_to_c, list_to_c};
 
+use crate::colors::LegendColor;
 use c_types::answer;
 use c_types::answer::LegendAnswer;
 use legend_apply::ColorList;
 use legend_pixel::PixelColor;
 use legend_range::TotalRange;
 use refusal::Answer;
-
-// The colour of a sample, the number of its rule, and that of the ramp's entry or of the band: all 0 beside a refusal.
-#[repr(C)]
-#[derive(Drop)]
-pub struct LegendPixel {
-    pub answer: LegendAnswer,
-    pub color: u32,
-    pub rule: u32,
-    pub number: usize,
-}
 
 // The whole range of a legend's values, 0 and 0 beside a refusal.
 #[repr(C)]
@@ -38,34 +29,28 @@ pub struct LegendColorList {
 
 // A call's own arguments are refused by `first`, before anything else is.
 
-fn pixel_or_refusal(pixel: PixelColor) -> LegendPixel
+fn pixel_or_refusal(pixel: PixelColor) -> LegendColor
     ensures { result ≡ pixel_to_c Answer.Done pixel }
 {
     match pixel {
-        PixelColor::Color(color, rule) => LegendPixel {
+        PixelColor::Color(color) => LegendColor {
             answer: answer::to_c(Answer::Done),
             color,
-            rule: rule.number(),
-            number: rule.index(),
         },
-        PixelColor::Refused(why) => LegendPixel {
+        PixelColor::Refused(why) => LegendColor {
             answer: answer::to_c(Answer::Refused(why)),
             color: 0,
-            rule: 0,
-            number: 0,
         },
     }
 }
 
-pub fn pixel_to_c(first: Answer, pixel: PixelColor) -> LegendPixel
+pub fn pixel_to_c(first: Answer, pixel: PixelColor) -> LegendColor
     ensures { result ≡ pixel_to_c first pixel }
 {
     match first {
-        Answer::Refused(_) => LegendPixel {
+        Answer::Refused(_) => LegendColor {
             answer: answer::to_c(first),
             color: 0,
-            rule: 0,
-            number: 0,
         },
         Answer::Done => pixel_or_refusal(pixel),
     }

@@ -12,11 +12,11 @@ use Rattle.legend_view.specs.Borrowed.{borrowed_legend}
 use Rattle.legend_pixel.specs.declared.PixelColor.{PixelColor}
 use Rattle.legend_pixel.specs.Values.{color_for_value}
 use Rattle.c_types.proofs.Naming.{with_both}
-use Rattle.c_answers.specs.declared.uses.LegendPixel.{LegendPixel}
+use Rattle.c_answers.specs.declared.colors.LegendColor.{LegendColor}
 use Rattle.c_answers.specs.Uses.{pixel_to_c}
 
 pub color-is : (cmap : List ℕ) (keys : List ℤ) (colors lookup : List ℕ)
-    {result : LegendPixel} {asked first : Answer} {pixel : PixelColor} {h h' : View} {v v' : Nodata} {x x' : Float}
+    {result : LegendColor} {asked first : Answer} {pixel : PixelColor} {h h' : View} {v v' : Nodata} {x x' : Float}
     → result ≡ pixel_to_c first pixel → first ≡ asked → pixel ≡ color_for_value (borrowed_legend h' cmap keys colors lookup) v' x'
     → h' ≡ h → v' ≡ v → x' ≡ x → result ≡ pixel_to_c asked (color_for_value (borrowed_legend h cmap keys colors lookup) v x)
 color-is cmap keys colors lookup r f p eh ev ex =

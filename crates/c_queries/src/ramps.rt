@@ -1,13 +1,11 @@
-// Ramps, and what a fraction is looked up as in one.
+// Ramps, and looking a fraction up in one.
 ghost use Rattle.std.specs.Prelude.{◌≡◌};
 ghost use Rattle.colormap.specs.Made.{ramp_of_list, ramp_of_preset};
-ghost use Rattle.lookup.specs.Entries.{plain_entry, lane_entry};
-ghost use Rattle.c_answers.specs.Entries.{entry_to_c};
+ghost use Rattle.lookup.specs.Entries.{plain_entry, lane_entry, entry_color};
 ghost use Rattle.c_answers.specs.Ramps.{ramp_to_c};
 
-use c_answers::entries::LegendEntry;
+use c_answers::ramps;
 use c_answers::ramps::LegendRamp;
-use c_answers::{entries, ramps};
 
 // A list of colours spread over a ramp.
 #[unsafe(no_mangle)]
@@ -25,18 +23,19 @@ pub extern "C" fn legend_ramp_from_palette(number: usize) -> LegendRamp
     ramps::ramp_to_c(colormap::create_for_preset(number))
 }
 
-// The entry of a fraction in any ramp.
+// The colour of a fraction. The ramp is lent: by value it would be copied at each call.
 #[unsafe(no_mangle)]
-pub extern "C" fn legend_get_entry(fraction: f32) -> LegendEntry
-    ensures { result ≡ entry_to_c (plain_entry fraction) }
+pub extern "C" fn legend_get_color(ramp: &[u32; 256], fraction: f32) -> u32
+    ensures { result ≡ entry_color ramp.now (plain_entry fraction) }
 {
-    entries::entry_to_c(lookup::get_entry(fraction))
+    lookup::get_color(ramp, fraction)
 }
 
-// The entry of a fraction by the rule of the lanes.
+// The colour of a fraction by the rule of the lanes: one lane of the look-up that the painters use.
 #[unsafe(no_mangle)]
-pub extern "C" fn legend_get_entry_simd(fraction: f32) -> LegendEntry
-    ensures { result ≡ entry_to_c (lane_entry fraction) }
+pub extern "C" fn legend_get_color_simd(ramp: &[u32; 256], fraction: f32) -> u32
+    ensures { result ≡ entry_color ramp.now (lane_entry fraction) }
 {
-    entries::entry_to_c(lookup::get_entry_lane(fraction))
+    let colors = lookup::get_color_simd(1, ramp, [fraction; 16]);
+    colors[0]
 }

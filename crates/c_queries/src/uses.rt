@@ -12,8 +12,9 @@ ghost use Rattle.c_types.specs.Samples.{nodata_if};
 ghost use Rattle.c_answers.specs.Uses.{pixel_to_c, range_to_c, list_to_c};
 
 use banded::Banded;
+use c_answers::colors::LegendColor;
 use c_answers::uses;
-use c_answers::uses::{LegendColorList, LegendPixel, LegendValueRange};
+use c_answers::uses::{LegendColorList, LegendValueRange};
 use c_records::record::LegendRecord;
 use c_records::view::LegendView;
 use c_records::{record, view};
@@ -32,7 +33,7 @@ pub extern "C" fn legend_view_color_for_f32(
     value: f32,
     nodata_given: u32,
     nodata: f32,
-) -> LegendPixel
+) -> LegendColor
     ensures { result ≡ pixel_to_c (use_refusal view.settings view.kind nodata_given)
         (color_for_value (borrowed_legend (view_from_c view banded) cmap.now keys.now colors.now lookup.now)
         (nodata_if nodata_given nodata) value) }
@@ -63,7 +64,7 @@ pub extern "C" fn legend_view_color_for_u8(
     value: u8,
     nodata_given: u32,
     nodata: u8,
-) -> LegendPixel
+) -> LegendColor
     ensures { result ≡ pixel_to_c (use_refusal view.settings view.kind nodata_given)
         (color_for_value (borrowed_legend (view_from_c view banded) cmap.now keys.now colors.now lookup.now)
         (nodata_if nodata_given (of_u8 nodata)) (of_u8 value)) }
@@ -94,7 +95,7 @@ pub extern "C" fn legend_view_color_for_i16(
     value: i16,
     nodata_given: u32,
     nodata: i16,
-) -> LegendPixel
+) -> LegendColor
     ensures { result ≡ pixel_to_c (use_refusal view.settings view.kind nodata_given)
         (color_for_value (borrowed_legend (view_from_c view banded) cmap.now keys.now colors.now lookup.now)
         (nodata_if nodata_given (of_i16 nodata)) (of_i16 value)) }

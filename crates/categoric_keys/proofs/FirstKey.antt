@@ -13,7 +13,7 @@ use lib.ListN.{get_or}
 use mir.Syntax.{Width}
 use mir.Val.{SFits, of_z, to_z}
 use mir.ValLaws.{to_z-of_z}
-use Rattle.categoric_table.specs.Found.{entry, neither}
+use Rattle.colormapper.specs.Rule.{category, unknown}
 use Rattle.categoric_keys.specs.Rule.{eq_z, first_key}
 
 -- ---- the same key
@@ -47,24 +47,24 @@ by_bits w a b f g = go (eqb (of_z w a) (of_z w b)) (λ t. t) (λ t. t)
 
 -- ---- of n entries from entry m on
 module _ (keys : List ℤ) (z : ℤ) where
-  found_from : (m n k : ℕ) → m ≤ k → k < m + n → get_or keys k (pos 0) ≡ z → ((j : ℕ) → j < k → get_or keys j (pos 0) ≡ z → ⊥) → first_key keys z m n ≡ entry k
+  found_from : (m n k : ℕ) → m ≤ k → k < m + n → get_or keys k (pos 0) ≡ z → ((j : ℕ) → j < k → get_or keys j (pos 0) ≡ z → ⊥) → first_key keys z m n ≡ category k
   unfolding first_key
   found_from m zero k l h e before = absurd (omega arith)
   found_from m (suc n) k l h e before =
       ⊎_elim
       (λ (q : m ≡ k). let here : get_or keys m (pos 0) ≡ z = ap (λ (i : ℕ). get_or keys i (pos 0)) q ∙ e in rw (same_key (get_or keys m (pos 0)) z here)
-      (ap entry q))
+      (ap category q))
       (λ (q : m < k). rw (other_key (get_or keys m (pos 0)) z (before m q)) (found_from (suc m) n k q (omega arith) e before))
       (eq-or-lt_of_le l)
 
-  missing_from : (m n : ℕ) → ((j : ℕ) → j < m + n → get_or keys j (pos 0) ≡ z → ⊥) → first_key keys z m n ≡ neither
+  missing_from : (m n : ℕ) → ((j : ℕ) → j < m + n → get_or keys j (pos 0) ≡ z → ⊥) → first_key keys z m n ≡ unknown
   unfolding first_key
   missing_from m zero none = refl
   missing_from m (suc n) none = rw (other_key (get_or keys m (pos 0)) z (none m (omega arith))) (missing_from (suc m) n (λ j q. none j (omega arith)))
 
   -- ---- of the counted entries
-  pub found_at : (count k : ℕ) → k < count → get_or keys k (pos 0) ≡ z → ((j : ℕ) → j < k → get_or keys j (pos 0) ≡ z → ⊥) → first_key keys z 0 count ≡ entry k
+  pub found_at : (count k : ℕ) → k < count → get_or keys k (pos 0) ≡ z → ((j : ℕ) → j < k → get_or keys j (pos 0) ≡ z → ⊥) → first_key keys z 0 count ≡ category k
   found_at count k h e before = found_from 0 count k (omega arith) (omega arith) e before
 
-  pub found_nowhere : (count : ℕ) → ((j : ℕ) → j < count → get_or keys j (pos 0) ≡ z → ⊥) → first_key keys z 0 count ≡ neither
+  pub found_nowhere : (count : ℕ) → ((j : ℕ) → j < count → get_or keys j (pos 0) ≡ z → ⊥) → first_key keys z 0 count ≡ unknown
   found_nowhere count none = missing_from 0 count (λ j q. none j (omega arith))

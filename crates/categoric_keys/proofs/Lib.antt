@@ -2,5 +2,3 @@
 pub mod Rules
 pub mod FirstKey
 pub mod Ascent
-pub mod IsKey
-pub mod SampleRule

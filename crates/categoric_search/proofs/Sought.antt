@@ -16,8 +16,9 @@ use Rattle.cast.specs.declared.Truncated.{Truncated}
 use Rattle.cast.specs.declared.Truncated.TheVariants.{Whole, Outside}
 use Rattle.cast.specs.Truncated.{truncated}
 use Rattle.categoric_lists.specs.Ascending.{ascends}
-use Rattle.categoric_table.specs.Found.{entry, neither, found_color}
-use Rattle.categoric_keys.specs.Rule.{eq_z, first_key, key_found, key_color}
+use Rattle.colormapper.specs.Rule.{category, unknown, rule_color}
+use Rattle.categoric_table.specs.Rule.{categoric_rule_colors}
+use Rattle.categoric_keys.specs.Rule.{eq_z, first_key, key_rule, key_color}
 use Rattle.categoric_keys.proofs.Ascent.{lt→le, lt_le, lt_apart, counted-below}
 use Rattle.categoric_keys.proofs.FirstKey.{eq_z→eq, same_key, found_at, found_nowhere}
 use Rattle.categoric_search.specs.forms.Searchable.{in_key_range}
@@ -67,7 +68,7 @@ module _ (keys : List ℤ) (count : ℕ) (narrow : List ℤ) (n : Narrow keys co
         absurd (lt_apart z z (lt_le z (pos 2147483647) z low m) refl))
         (lt_or_le index count)
 
-    hit : at index ≡ z → first_key keys z 0 count ≡ entry index
+    hit : at index ≡ z → first_key keys z 0 count ≡ category index
     hit e =
         let l = counted_at (subst (λ (x : ℤ). T (le_z (at index) x)) e (≤ℤ_refl (at index)).le) in
         let is = sym (n.below index l) ∙ e in
@@ -80,7 +81,7 @@ module _ (keys : List ℤ) (count : ℕ) (narrow : List ℤ) (n : Narrow keys co
         let m = subst (λ (x : ℤ). T (le_z x z)) (n.below index l) s in
         lt_apart (key j) z (lt_le (key j) (key index) z (counted-below keys count up j index q l) m) e
 
-    miss : (at index ≡ z → ⊥) → first_key keys z 0 count ≡ neither
+    miss : (at index ≡ z → ⊥) → first_key keys z 0 count ≡ unknown
     miss other =
         found_nowhere keys z count
         (λ j q e. ⊎_elim
@@ -91,23 +92,23 @@ module _ (keys : List ℤ) (count : ℕ) (narrow : List ℤ) (n : Narrow keys co
         (eq-or-lt_of_le l))
         (lt_or_le index j))
 
-    looked_up_lem : (colors : List ℕ) (nodata : ℕ) → cond (eq_z (at index) z) (get_or colors index 0) nodata ≡ found_color [] colors nodata
+    looked_up_lem : (colors : List ℕ) (nodata : ℕ) → cond (eq_z (at index) z) (get_or colors index 0) nodata ≡ rule_color (categoric_rule_colors [] colors nodata)
         (first_key keys z 0 count)
     looked_up_lem colors nodata = go (eq_z (at index) z) (λ t. t) (λ t. t)
       where
         go : (t : Bool) → (T t → T (eq_z (at index) z)) → (T (not t) → T (not (eq_z (at index) z))) → cond t (get_or colors index 0) nodata
-            ≡ found_color [] colors nodata (first_key keys z 0 count)
-        go true holds fails = sym (ap (found_color [] colors nodata) (hit (eq_z→eq (at index) z (holds tt))))
+            ≡ rule_color (categoric_rule_colors [] colors nodata) (first_key keys z 0 count)
+        go true holds fails = sym (ap (rule_color (categoric_rule_colors [] colors nodata)) (hit (eq_z→eq (at index) z (holds tt))))
         go false holds fails =
-            sym (ap (found_color [] colors nodata)
+            sym (ap (rule_color (categoric_rule_colors [] colors nodata))
             (miss (λ e. T_not (eq_z (at index) z) (fails tt) (subst T (sym (same_key (at index) z e)) tt))))
 
   -- ---- a sample outside the range is no key
-  far : (z : ℤ) → (T (in_key_range z) → ⊥) → first_key keys z 0 count ≡ neither
+  far : (z : ℤ) → (T (in_key_range z) → ⊥) → first_key keys z 0 count ≡ unknown
   far z h = found_nowhere keys z count (λ j q e. h (subst (λ (x : ℤ). T (in_key_range x)) e (they_are_near keys count n.sought j q)))
 
-  by_rule : (t : Truncated) → first_key keys (narrow_key t) 0 count ≡ key_found keys count t
-  unfolding narrow_key key_found
+  by_rule : (t : Truncated) → first_key keys (narrow_key t) 0 count ≡ key_rule keys count t
+  unfolding narrow_key key_rule
   by_rule (Whole z) = go (in_key_range z) (λ t. t)
     where
       go : (b : Bool) → (T (in_key_range z) → T b) → first_key keys (cond b z none) 0 count ≡ first_key keys z 0 count
@@ -117,11 +118,11 @@ module _ (keys : List ℤ) (count : ℕ) (narrow : List ℤ) (n : Narrow keys co
 
   -- ---- the colour of a sample
   at_end : (z : ℤ) → T (lt_z z (pos 2147483647)) → (colors : List ℕ) (nodata : ℕ) → color_at_end narrow colors nodata z
-      ≡ found_color [] colors nodata (first_key keys z 0 count)
+      ≡ rule_color (categoric_rule_colors [] colors nodata) (first_key keys z 0 count)
   unfolding color_at_end
   at_end z low colors nodata = looked_up_lem z low _ (end_narrowed narrow z rising) colors nodata
 
   pub sample_color : (colors : List ℕ) (nodata : ℕ) (v : Float) → search_color narrow colors nodata v ≡ key_color keys colors count nodata v
   unfolding key_color
   sample_color colors nodata v =
-      at_end (narrow_key (truncated v)) (key_below (truncated v)) colors nodata ∙ ap (found_color [] colors nodata) (by_rule (truncated v))
+      at_end (narrow_key (truncated v)) (key_below (truncated v)) colors nodata ∙ ap (rule_color (categoric_rule_colors [] colors nodata)) (by_rule (truncated v))

@@ -22,8 +22,8 @@ use Rattle.cast.specs.Truncated.{truncated_fraction, truncated}
 use Rattle.cast.proofs.Value.{nothing}
 use Rattle.cast.proofs.Lossless.{exact}
 use Rattle.cast.proofs.Table.{table_end, Missed, missed}
-use Rattle.categoric_table.specs.Found.{Found, word, neither, found_or, found_color}
-use Rattle.categoric_table.specs.Rule.{table_found, table_color}
+use Rattle.colormapper.specs.Rule.{Rule, word, unknown, rule_color}
+use Rattle.categoric_table.specs.Rule.{table_rule, categoric_rule_colors, table_color}
 use Rattle.categoric_table.specs.forms.InTable.{minus_one, size_limit, in_table, at_least_zero, clamp, array_end, is_index}
 
 by_cond : (P : Float → Type 0) (b : Bool) (x y : Float) → (T b → P x) → (T (not b) → P y) → P (cond b x y)
@@ -76,28 +76,28 @@ infinity_above (inf t) n v = absurd v
 infinity_above (fin t k d) n v = refl
 
 -- ---- the rule at a float that is a / c in size
-none : (t : Truncated) → table_found 0 t ≡ neither
-unfolding table_found
+none : (t : Truncated) → table_rule 0 t ≡ unknown
+unfolding table_rule
 none (Whole (pos n)) = rw (le-ltb n 0 (omega arith))
 none (Whole (negsuc n)) = refl
 none Outside = refl
 
-missed_rule : (size : ℕ) → size ≤ 513 → (t : Truncated) → Missed t → table_found size t ≡ neither
-unfolding table_found
+missed_rule : (size : ℕ) → size ≤ 513 → (t : Truncated) → Missed t → table_rule size t ≡ unknown
+unfolding table_rule
 missed_rule size h (Whole (pos n)) k = rw (le-ltb n size (omega arith))
 missed_rule size h (Whole (negsuc n)) k = refl
 missed_rule size h Outside k = refl
 
-positive_rule : (size a c : ℕ) → size ≤ 513 → 0 < c → table_found size (truncated_fraction false a c) ≡ cond (ltb (a / c) size) (word (a / c)) neither
-unfolding table_found
+positive_rule : (size a c : ℕ) → size ≤ 513 → 0 < c → table_rule size (truncated_fraction false a c) ≡ cond (ltb (a / c) size) (word (a / c)) unknown
+unfolding table_rule
 positive_rule size a c h C = go (ltb a (2 ^ 63 * c)) (nltb→le a (2 ^ 63 * c))
   where
     far : 2 ^ 63 * c ≤ a → size ≤ a / c
     far g = le_trans (le_trans h (lit≤ tt)) ((le-div_iff_mul-le C).1 g)
 
-    go : (b : Bool) → (T (not b) → 2 ^ 63 * c ≤ a) → table_found size (cond b (Whole (pos (a / c))) Outside) ≡ cond (ltb (a / c) size) (word (a / c)) neither
+    go : (b : Bool) → (T (not b) → 2 ^ 63 * c ≤ a) → table_rule size (cond b (Whole (pos (a / c))) Outside) ≡ cond (ltb (a / c) size) (word (a / c)) unknown
     go true n = refl
-    go false n = sym (ap (λ (b : Bool). cond b (word (a / c)) neither) (le-ltb (a / c) size (far (n tt))))
+    go false n = sym (ap (λ (b : Bool). cond b (word (a / c)) unknown) (le-ltb (a / c) size (far (n tt))))
 
 -- ---- the test and the place
 above_minus_one : (m : ℕ) (e : ℤ) → lt minus_one (fin false m e) ≡ true
@@ -112,7 +112,7 @@ empty_test v =
     (λ t. lt_irrefl_float minus_one (lt_lt minus_one v minus_one (and_l (lt minus_one v) (lt v minus_one) t) (and_r (lt minus_one v) (lt v minus_one) t))))
 
 abbrev Looked : ℕ → Float → Type 0
-Looked size v = table_found size (truncated v) ≡ cond (in_table size v) (word (floor_of (clamp size v))) neither
+Looked size v = table_rule size (truncated v) ≡ cond (in_table size v) (word (floor_of (clamp size v))) unknown
 
 -- from 0 on: the test is that of the whole part, which is the place, raised or not
 raised_place : (m : ℕ) (e : ℤ) → floor_of (at_least_zero (fin false m e)) ≡ m * up e / down e
@@ -129,11 +129,11 @@ positive_looked n m e h =
     positive_rule (suc n) (m * up e) (down e) h (down_pos e)
     ∙ chosen (ltb (m * up e / down e) (suc n))
     ∙ sym (ap (λ (b : Bool). cond (b && ltb (m * up e / down e) (suc n))
-    (word (floor_of (at_least_zero (cond (ltb (m * up e / down e) (suc n)) (fin false m e) nought)))) neither) (above_minus_one m e))
-    ∙ sym (ap (λ (b : Bool). cond (lt minus_one (fin false m e) && b) (word (floor_of (at_least_zero (cond b (fin false m e) nought)))) neither)
+    (word (floor_of (at_least_zero (cond (ltb (m * up e / down e) (suc n)) (fin false m e) nought)))) unknown) (above_minus_one m e))
+    ∙ sym (ap (λ (b : Bool). cond (lt minus_one (fin false m e) && b) (word (floor_of (at_least_zero (cond b (fin false m e) nought)))) unknown)
     (whole_below m e (size_limit (suc n)) (suc n) (limit-value n h)))
   where
-    chosen : (b : Bool) → cond b (word (m * up e / down e)) neither ≡ cond b (word (floor_of (at_least_zero (cond b (fin false m e) nought)))) neither
+    chosen : (b : Bool) → cond b (word (m * up e / down e)) unknown ≡ cond b (word (floor_of (at_least_zero (cond b (fin false m e) nought)))) unknown
     chosen true = sym (ap word (raised_place m e))
     chosen false = refl
 
@@ -142,40 +142,40 @@ negative_place : (size m : ℕ) (e : ℤ) → floor_of (clamp size (fin true m e
 unfolding clamp lt
 negative_place size m e = by_cond (λ x. floor_of (at_least_zero x) ≡ 0) (lt (fin true m e) (size_limit size)) (fin true m e) nought (λ t. refl) (λ t. refl)
 
-near : (n m : ℕ) (e : ℤ) → T (lt minus_one (fin true m e)) → table_found (suc n) (truncated (fin true m e)) ≡ word 0
-unfolding lt truncated table_found
+near : (n m : ℕ) (e : ℤ) → T (lt minus_one (fin true m e)) → table_rule (suc n) (truncated (fin true m e)) ≡ word 0
+unfolding lt truncated table_rule
 near n m e t =
     let l = ltb→lt (m * up e * 1) (1 * 1 * down e) t in
-    ap (table_found (suc n)) (nothing true (m * up e) (down e) (omega arith))
-    ∙ ap (λ (b : Bool). cond b (word 0) neither) (lt-ltb 0 (suc n) (omega arith))
+    ap (table_rule (suc n)) (nothing true (m * up e) (down e) (omega arith))
+    ∙ ap (λ (b : Bool). cond b (word 0) unknown) (lt-ltb 0 (suc n) (omega arith))
 
 first_fails : (p q : Bool) → T (not p) → T (not (p && q))
 first_fails true q t = absurd t
 first_fails false q t = tt
 
-away : (size : ℕ) → size ≤ 513 → (v : Float) → T (not (lt minus_one v)) → table_found size (truncated v) ≡ neither
+away : (size : ℕ) → size ≤ 513 → (v : Float) → T (not (lt minus_one v)) → table_rule size (truncated v) ≡ unknown
 unfolding of_bits
 away size h v t = missed_rule size h (truncated v) (missed v (first_fails (lt minus_one v) (lt v table_end) t))
 
-by_test : (b : Bool) (r x y : Found) → (T b → r ≡ x) → (T (not b) → r ≡ y) → r ≡ cond b x y
+by_test : (b : Bool) (r x y : Rule) → (T b → r ≡ x) → (T (not b) → r ≡ y) → r ≡ cond b x y
 by_test true r x y f g = f tt
 by_test false r x y f g = g tt
 
 negative_looked : (n m : ℕ) (e : ℤ) → suc n ≤ 513 → Looked (suc n) (fin true m e)
 unfolding in_table
 negative_looked n m e h =
-    by_test (lt minus_one (fin true m e)) (table_found (suc n) (truncated (fin true m e))) (word 0) neither (near n m e) (away (suc n) h (fin true m e))
-    ∙ sym (ap (λ (b : Bool). cond b (word 0) neither) (and_true (lt minus_one (fin true m e))))
-    ∙ sym (ap (λ (b : Bool). cond (lt minus_one (fin true m e) && b) (word 0) neither) (negative-below m e (size_limit (suc n)) n (limit-value n h)))
-    ∙ sym (ap (λ (k : ℕ). cond (in_table (suc n) (fin true m e)) (word k) neither) (negative_place (suc n) m e))
+    by_test (lt minus_one (fin true m e)) (table_rule (suc n) (truncated (fin true m e))) (word 0) unknown (near n m e) (away (suc n) h (fin true m e))
+    ∙ sym (ap (λ (b : Bool). cond b (word 0) unknown) (and_true (lt minus_one (fin true m e))))
+    ∙ sym (ap (λ (b : Bool). cond (lt minus_one (fin true m e) && b) (word 0) unknown) (negative-below m e (size_limit (suc n)) n (limit-value n h)))
+    ∙ sym (ap (λ (k : ℕ). cond (in_table (suc n) (fin true m e)) (word k) unknown) (negative_place (suc n) m e))
 
 looked : (size : ℕ) → size ≤ 513 → (v : Float) → Looked size v
-unfolding lt truncated table_found in_table
-looked zero h v = none (truncated v) ∙ sym (ap (λ (b : Bool). cond b (word (floor_of (clamp 0 v))) neither) (empty_test v))
+unfolding lt truncated table_rule in_table
+looked zero h v = none (truncated v) ∙ sym (ap (λ (b : Bool). cond b (word (floor_of (clamp 0 v))) unknown) (empty_test v))
 looked (suc n) h nan = refl
 looked (suc n) h (inf true) = refl
 looked (suc n) h (inf false) =
-    sym (ap (λ (b : Bool). cond b (word (floor_of (clamp (suc n) (inf false)))) neither) (infinity_above (size_limit (suc n)) (suc n) (limit-value n h)))
+    sym (ap (λ (b : Bool). cond b (word (floor_of (clamp (suc n) (inf false)))) unknown) (infinity_above (size_limit (suc n)) (suc n) (limit-value n h)))
 looked (suc n) h (fin true m e) = negative_looked n m e h
 looked (suc n) h (fin false m e) = positive_looked n m e h
 
@@ -227,19 +227,10 @@ place_lt x p = whole_in x (place_under x p)
 pub chosen : (lookup : List ℕ) (size nodata : ℕ) → size ≤ 513 → (v : Float) → cond (in_table size v) (get_or lookup (floor_of (clamp size v)) 0) nodata
     ≡ table_color lookup size nodata v
 unfolding table_color
-chosen lookup size nodata h v = go (in_table size v) ∙ sym (ap (found_color lookup [] nodata) (looked size h v))
+chosen lookup size nodata h v = go (in_table size v) ∙ sym (ap (rule_color (categoric_rule_colors lookup [] nodata)) (looked size h v))
   where
-    go : (b : Bool) → cond b (get_or lookup (floor_of (clamp size v)) 0) nodata ≡ found_color lookup [] nodata
-        (cond b (word (floor_of (clamp size v))) neither)
-    go true = refl
-    go false = refl
-
--- an index worked out first and replaced outside
-pub index_chosen : (size other : ℕ) → size ≤ 513 → (v : Float) → cond (in_table size v) (floor_of (clamp size v)) other
-    ≡ found_or other (table_found size (truncated v))
-index_chosen size other h v = go (in_table size v) ∙ sym (ap (found_or other) (looked size h v))
-  where
-    go : (b : Bool) → cond b (floor_of (clamp size v)) other ≡ found_or other (cond b (word (floor_of (clamp size v))) neither)
+    go : (b : Bool) → cond b (get_or lookup (floor_of (clamp size v)) 0) nodata ≡ rule_color (categoric_rule_colors lookup [] nodata)
+        (cond b (word (floor_of (clamp size v))) unknown)
     go true = refl
     go false = refl
 

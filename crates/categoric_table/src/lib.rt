@@ -4,9 +4,6 @@ ghost use Rattle.std.specs.Prelude.{◌≡◌, cond, ℕ, ◌≤◌, ◌<◌, T,
 ghost use Rattle.std.specs.Float.{nan};
 ghost use Rattle.floats.specs.RampIndex.{nought, floor_of};
 ghost use Rattle.lists.specs.Lanes.{LanesOf};
-ghost use Rattle.cast.specs.Truncated.{truncated};
-ghost use Rattle.categoric_table.specs.Found.{found_or};
-ghost use Rattle.categoric_table.specs.Rule.{table_found};
 ghost use Rattle.categoric_table.specs.forms.InTable.{size_limit, in_table, mappable_in_table, clamp, is_index};
 
 use colormapper::Exclusions;
@@ -76,46 +73,6 @@ pub fn mask_missing(
     }
     result
 }
-
-// ---- the index of the word instead of the word: three phases
-
-// Each sample's index in the table, another number for a sample that has no word in it.
-pub fn indices_or(size: usize, value: [f32; 16], other: u32) -> [u32; 16]
-    requires { size ≤ 513 }
-    ensures { LanesOf 0 16 (λ k. found_or other (table_found size (truncated (get_or value k nan)))) result }
-{
-    let places = clamped_lanes(16, size, value);
-    let whole = whole_parts(places);
-    in_table_or(size, value, whole, other)
-}
-
-fn whole_parts(places: [f32; 16]) -> [u32; 16]
-    requires { (k : ℕ) → k < 16 → T (is_index (get_or places k nan)) }
-    ensures { LanesOf 0 16 (λ k. floor_of (get_or places k nan)) result }
-{
-    let mut result = [0u32; 16];
-    let mut i: usize = 0;
-    while i < 16 {
-        result[i] = round::floor(places[i]) as u32;
-        i += 1;
-    }
-    result
-}
-
-fn in_table_or(size: usize, value: [f32; 16], numbers: [u32; 16], other: u32) -> [u32; 16]
-    requires { size ≤ 513 }
-    ensures { LanesOf 0 16 (λ k. cond (in_table size (get_or value k nan)) (get_or numbers k 0) other) result }
-{
-    let mut result = [0u32; 16];
-    let mut i: usize = 0;
-    while i < 16 {
-        result[i] = select::pick(in_table(size, value[i]), numbers[i], other);
-        i += 1;
-    }
-    result
-}
-
-// ---- one sample
 
 // Whether a sample has a word in the table: cut toward zero, it lies from 0 to below the size.
 fn in_table(size: usize, value: f32) -> bool

@@ -21,7 +21,7 @@ use Rattle.cast.specs.declared.Nodata.{Nodata}
 use Rattle.cast.specs.declared.Nodata.TheVariants.{Value, Absent}
 use Rattle.colormapper.specs.declared.UnmappableColors.{UnmappableColors}
 use Rattle.colormapper.specs.Rule.{rule_color}
-use Rattle.colormapper.specs.declared.Rule.TheVariants as rule
+use Rattle.colormapper.specs.Rule as rule
 use Rattle.colormapper.specs.Tolerance.{E, within}
 use Rattle.colormapper.specs.Unmappable.{is_nodata, unmappable}
 use Rattle.interpolate.specs.Fraction.{fraction, plain_fraction}
@@ -32,7 +32,6 @@ use Rattle.banded_columns.specs.Band.{holds, last_of}
 use Rattle.banded_rule.specs.forms.Steps.{first_color, edge_color}
 use Rattle.banded_rule.specs.PlainRule as bands
 use Rattle.banded_rule.proofs.Forms.{plain_form, edge_chain}
-use Rattle.categoric_table.specs.Found.{found_color}
 use Rattle.categoric_table.specs.Rule as words
 use Rattle.categoric_keys.specs.Rule as categories
 
@@ -152,13 +151,13 @@ module _ (s t : Bool) where
     unfolding linear.lane_color linear.lane_rule
     lane_zeros =
         ap (rule_color (linear.linear_rule_colors cmap u))
-        (range_zeros start end rule.Low rule.High (ap (λ (f : Float). linear.entry_rule (lane_entry f)) (fraction_zeros start end)))
+        (range_zeros start end rule.low rule.high (ap (λ (f : Float). linear.entry_rule (lane_entry f)) (fraction_zeros start end)))
 
     pub plain_zeros : linear.plain_color cmap start end u x ≡ linear.plain_color cmap start end u y
     unfolding linear.plain_color linear.plain_rule plain_fraction
     plain_zeros =
         ap (rule_color (linear.linear_rule_colors cmap u))
-        (range_zeros start end rule.Low rule.High (ap (λ (f : Float). linear.entry_rule (plain_entry (cond (lt end start) nought f))) (fraction_zeros start end)))
+        (range_zeros start end rule.low rule.high (ap (λ (f : Float). linear.entry_rule (plain_entry (cond (lt end start) nought f))) (fraction_zeros start end)))
 
   -- banded
   holds_zeros : (b : LegendBand) → holds b x ≡ holds b y
@@ -193,7 +192,7 @@ truncated_zeros false false = refl
 
 pub categoric_zeros : (s t : Bool) (keys : List ℤ) (colors : List ℕ) (count : ℕ) (lookup : List ℕ) (size nodata : ℕ)
     → categories.plain_color keys colors count lookup size nodata (signed_zero s) ≡ categories.plain_color keys colors count lookup size nodata (signed_zero t)
-unfolding categories.plain_color categories.plain_found
+unfolding categories.plain_color categories.plain_rule
 categoric_zeros s t keys colors count lookup size nodata =
-    ap (λ z. found_color lookup colors nodata (cond (ltb 0 size) (words.table_found size z) (categories.key_found keys count z)))
+    ap (λ z. rule_color (words.categoric_rule_colors lookup colors nodata) (cond (ltb 0 size) (words.table_rule size z) (categories.key_rule keys count z)))
     (truncated_zeros s t)

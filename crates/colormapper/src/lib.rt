@@ -5,7 +5,6 @@ ghost use Rattle.floats.specs.RampIndex.{nought};
 ghost use Rattle.lists.specs.Lanes.{LanesOf};
 ghost use Rattle.colormapper.specs.Settings.{or_else, color_if, given_flag, flag_of, unmappable_colors, no_settings};
 ghost use Rattle.colormapper.specs.Unmappable.{unmappable};
-ghost use Rattle.colormapper.specs.Rule.{rule_number, rule_index};
 ghost use Rattle.colormapper.specs.forms.Exclusions.{excluded, value_or_nan, exclusions_of};
 
 use cast::Nodata;
@@ -40,67 +39,6 @@ pub struct UnmappableColors {
 pub struct Exclusions {
     pub nodata: f32,
     pub zero: f32,
-}
-
-// Which rule gives a sample its colour, painted plainly: an unmappable sample; of a linear legend the ramp's entry with a number, or none; of
-// a banded one the band with a number, within E of the first start, within E of the last end; of both below or above the range; of a banded
-// one none of these; of a categoric one a category, a word of the table that is no category's, neither.
-#[derive(Drop)]
-pub enum Rule {
-    Nodata,
-    RampEntry(usize),
-    RampOutside,
-    Band(usize),
-    LowerEdge,
-    UpperEdge,
-    Low,
-    High,
-    Gap,
-    Category,
-    TableGap,
-    Unknown,
-}
-
-impl Rule {
-    // From 0 to 11, in the order above.
-    pub fn number(self) -> u32
-        ensures { result ≡ rule_number self }
-    {
-        match self {
-            Rule::Nodata => 0,
-            Rule::RampEntry(_) => 1,
-            Rule::RampOutside => 2,
-            Rule::Band(_) => 3,
-            Rule::LowerEdge => 4,
-            Rule::UpperEdge => 5,
-            Rule::Low => 6,
-            Rule::High => 7,
-            Rule::Gap => 8,
-            Rule::Category => 9,
-            Rule::TableGap => 10,
-            Rule::Unknown => 11,
-        }
-    }
-
-    // The number of the ramp's entry or of the band, 0 for other rules.
-    pub fn index(self) -> usize
-        ensures { result ≡ rule_index self }
-    {
-        match self {
-            Rule::Nodata => 0,
-            Rule::RampEntry(k) => k,
-            Rule::RampOutside => 0,
-            Rule::Band(k) => k,
-            Rule::LowerEdge => 0,
-            Rule::UpperEdge => 0,
-            Rule::Low => 0,
-            Rule::High => 0,
-            Rule::Gap => 0,
-            Rule::Category => 0,
-            Rule::TableGap => 0,
-            Rule::Unknown => 0,
-        }
-    }
 }
 
 impl MappingConfig {

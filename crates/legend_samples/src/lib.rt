@@ -14,7 +14,7 @@ use legend_view::View;
 // ---- samples of any type
 
 // Where the block from a place on ends, of n samples.
-pub fn block_end(from: usize, n: usize) -> usize
+fn block_end(from: usize, n: usize) -> usize
     requires { from ≤ n }
     ensures { result ≡ min (from + 256) n }
 {
@@ -50,7 +50,7 @@ fn block(
 // ---- samples that are u8
 
 // A block of them as f32, zeros after it.
-pub fn f32_of_u8(src: &[u8]) -> [f32; 256]
+fn f32_of_u8(src: &[u8]) -> [f32; 256]
     requires { length src.now ≤ 256 }
     ensures { take (length src.now) result ≡ map of_u8 src.now }
 {
@@ -96,7 +96,7 @@ pub fn paint_u8(
 // ---- samples that are i16
 
 // A block of them as f32, zeros after it.
-pub fn f32_of_i16(src: &[i16]) -> [f32; 256]
+fn f32_of_i16(src: &[i16]) -> [f32; 256]
     requires { length src.now ≤ 256 }
     ensures { take (length src.now) result ≡ map of_i16 src.now }
 {

@@ -13,8 +13,7 @@ use Rattle.lookup.specs.declared.Entry.TheVariants.{At, Outside}
 use Rattle.lookup.specs.Entries.{plain_entry, lane_entry, entry_color}
 use Rattle.colormapper.specs.declared.UnmappableColors.{UnmappableColors}
 use Rattle.colormapper.specs.Tolerance.{E}
-use Rattle.colormapper.specs.declared.Rule.TheVariants.{Low, High}
-use Rattle.colormapper.specs.Rule.{rule_color}
+use Rattle.colormapper.specs.Rule.{low, high, rule_color}
 use Rattle.linear_rule.specs.Rule.{by_range, entry_rule, rule_in_range, plain_rule, lane_rule, linear_rule_colors, plain_color, lane_color}
 
 module _ (cmap : List ℕ) (start end : Float) (u : UnmappableColors) (v : Float) where
@@ -27,7 +26,7 @@ module _ (cmap : List ℕ) (start end : Float) (u : UnmappableColors) (v : Float
       found Outside = refl
 
       go : (b a : Bool) → cond b u.low (cond a u.high (entry_color cmap entry)) ≡ rule_color (linear_rule_colors cmap u)
-          (cond b Low (cond a High (entry_rule entry)))
+          (cond b low (cond a high (entry_rule entry)))
       go true a = refl
       go false true = refl
       go false false = found entry

@@ -20,8 +20,7 @@ use Rattle.lookup.specs.declared.Entry.TheVariants.{At, Outside}
 use Rattle.lookup.specs.Entries.{plain_entry, lane_entry}
 use Rattle.colormapper.specs.declared.UnmappableColors.{UnmappableColors}
 use Rattle.colormapper.specs.Tolerance.{E}
-use Rattle.colormapper.specs.declared.Rule.TheVariants.{RampEntry}
-use Rattle.colormapper.specs.Rule.{rule_color}
+use Rattle.colormapper.specs.Rule.{ramp_entry, rule_color}
 use Rattle.linear_rule.specs.Rule.{entry_rule, rule_in_range, plain_rule, lane_rule, linear_rule_colors, plain_color, lane_color}
 use Rattle.linear_rule.specs.Exception.{ExceptionFraction}
 use Rattle.linear_rule.proofs.Inside.{inside}
@@ -75,7 +74,7 @@ module _ (start end v : Float) (ordered : lt end start ≡ false) where
       in_range_lem : (entry : Entry) → rule_in_range start end v entry ≡ entry_rule entry
       in_range_lem entry = rw (within.0, within.1)
 
-      pub rule_differs : (lane_rule start end v ≡ RampEntry 1) × (plain_rule start end v ≡ RampEntry 0)
+      pub rule_differs : (lane_rule start end v ≡ ramp_entry 1) × (plain_rule start end v ≡ ramp_entry 0)
       unfolding lane_rule plain_rule
       rule_differs =
           let d = entry_differs (fraction start end v) (fraction_fits start end v) bits in (

@@ -7,9 +7,7 @@ use Rattle.lookup.specs.declared.Entry.{Entry}
 use Rattle.lookup.specs.declared.Entry.TheVariants.{At, Outside}
 use Rattle.lookup.specs.Entries.{plain_entry, lane_entry}
 use Rattle.colormapper.specs.declared.UnmappableColors.{UnmappableColors}
-use Rattle.colormapper.specs.declared.Rule.{Rule}
-use Rattle.colormapper.specs.declared.Rule.TheVariants.{RampEntry, RampOutside, Low, High}
-use Rattle.colormapper.specs.Rule.{RuleColors, rule_color}
+use Rattle.colormapper.specs.Rule.{Rule, ramp_entry, ramp_outside, low, high, RuleColors, rule_color}
 use Rattle.colormapper.specs.Tolerance.{E}
 
 -- below start - E the first, else above end + E the second, else the third
@@ -18,11 +16,11 @@ by_range start end v x y z = cond (lt v (sub binary32 start E)) x (cond (lt (add
 
 -- what the fraction is looked up as
 abbrev pub entry_rule : Entry → Rule
-entry_rule (At k) = RampEntry k
-entry_rule Outside = RampOutside
+entry_rule (At k) = ramp_entry k
+entry_rule Outside = ramp_outside
 
 abbrev pub rule_in_range : (start end v : Float) → Entry → Rule
-rule_in_range start end v entry = by_range start end v Low High (entry_rule entry)
+rule_in_range start end v entry = by_range start end v low high (entry_rule entry)
 
 unfoldable pub plain_rule : (start end v : Float) → Rule
 plain_rule start end v = rule_in_range start end v (plain_entry (plain_fraction start end v))
@@ -33,7 +31,7 @@ lane_rule start end v = rule_in_range start end v (lane_entry (fraction start en
 
 -- the colours are the ramp's and those of the settings
 abbrev pub linear_rule_colors : (cmap : List ℕ) → UnmappableColors → RuleColors
-linear_rule_colors cmap u = record { unmappable = u; ramp = cmap; bands = []; found = 0 }
+linear_rule_colors cmap u = record { unmappable = u; ramp = cmap; bands = []; categories = []; table = [] }
 
 unfoldable pub plain_color : (cmap : List ℕ) (start end : Float) → UnmappableColors → Float → ℕ
 plain_color cmap start end u v = rule_color (linear_rule_colors cmap u) (plain_rule start end v)

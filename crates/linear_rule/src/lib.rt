@@ -4,11 +4,10 @@ ghost use Rattle.std.specs.Float.{nan};
 ghost use Rattle.floats.specs.RampIndex.{nought};
 ghost use Rattle.lists.specs.Lanes.{LanesOf};
 ghost use Rattle.interpolate.specs.Fraction.{plain_fraction};
-ghost use Rattle.linear_rule.specs.Rule.{by_range, plain_rule, plain_color, lane_color};
+ghost use Rattle.linear_rule.specs.Rule.{by_range, plain_color, lane_color};
 
-use colormapper::{Rule, UnmappableColors};
+use colormapper::UnmappableColors;
 use linear::Linear;
-use lookup::Entry;
 
 // ---- the plain rule
 
@@ -27,23 +26,7 @@ pub fn color_for_numeric_value(
     in_range(start, end, u, value, color)
 }
 
-// Which rule a mappable sample falls under.
-pub fn rule_for_numeric_value(start: f32, end: f32, value: f32) -> Rule
-    ensures { result ≡ plain_rule start end value }
-{
-    if value < start - Linear::EDGE_TOLERANCE {
-        return Rule::Low;
-    }
-    if value > end + Linear::EDGE_TOLERANCE {
-        return Rule::High;
-    }
-    match lookup::get_entry(interpolate::linear_map_to_float(value, start, end)) {
-        Entry::At(k) => Rule::RampEntry(k),
-        Entry::Outside => Rule::RampOutside,
-    }
-}
-
-// The colours of sixteen samples, in phases: each is a loop that is vectorised.
+// The same for sixteen samples, in phases: each is a loop that is vectorised.
 pub fn colors_for_numeric_values(
     cmap: &[u32; 256],
     start: f32,
@@ -59,7 +42,7 @@ pub fn colors_for_numeric_values(
 }
 
 // The plain fractions of sixteen samples: the lanes', once the start is known not to be above the end.
-pub fn fractions(start: f32, end: f32, value: [f32; 16]) -> [f32; 16]
+fn fractions(start: f32, end: f32, value: [f32; 16]) -> [f32; 16]
     ensures { LanesOf nought 16 (λ k. plain_fraction start end (get_or value k nan)) result }
 {
     if end < start {
@@ -117,7 +100,7 @@ pub fn color_for_numeric_value_simd16(
 // ---- both
 
 // Low and high out of range, else the colours that were looked up.
-pub fn in_ranges(
+fn in_ranges(
     lanes: usize,
     start: f32,
     end: f32,

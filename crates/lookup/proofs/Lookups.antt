@@ -10,7 +10,7 @@ use Rattle.floats.specs.RampIndex.{c255, nought, one, half_up, in_unit, plain_in
 use Rattle.floats.proofs.RampBounds.{plain-is}
 use Rattle.lookup.specs.declared.Entry.{Entry}
 use Rattle.lookup.specs.declared.Entry.TheVariants.{At, Outside}
-use Rattle.lookup.specs.Entries.{plain_entry, lane_entry, entry_or_2, entry_color}
+use Rattle.lookup.specs.Entries.{plain_entry, lane_entry, entry_color}
 use Rattle.lookup.specs.forms.UnitOrZero.{unit_or_zero}
 
 pub holds : {b : Bool} → b ≡ true → T b
@@ -54,15 +54,6 @@ module _ (f : Float) where
   pub kept_outside : in_unit f ≡ false → nought ≡ unit_or_zero f
   unfolding unit_or_zero
   kept_outside h = rw h
-
-  -- an entry's number worked out first and replaced outside
-  pub entry_chosen : (outside : ℕ) → cond (in_unit f) (plain_index (unit_or_zero f)) outside ≡ entry_or_2 outside (plain_entry f)
-  unfolding unit_or_zero plain_entry
-  entry_chosen outside = go (in_unit f)
-    where
-      go : (b : Bool) → cond b (plain_index (cond b f nought)) outside ≡ entry_or_2 outside (cond b (At (plain_index f)) Outside)
-      go true = refl
-      go false = refl
 
   -- a colour looked up first and replaced outside
   chosen : (cmap : List ℕ) (index : Float → ℕ) → cond (in_unit f) (get_or cmap (index (unit_or_zero f)) 0) 0

@@ -13,11 +13,6 @@ plain_entry f = cond (in_unit f) (At (plain_index f)) Outside
 unfoldable pub lane_entry : Float → Entry
 lane_entry f = cond (in_unit f) (At (lane_index f)) Outside
 
--- an entry's number; outside, another number
-abbrev pub entry_or_2 : (outside : ℕ) → Entry → ℕ
-entry_or_2 outside (At k) = k
-entry_or_2 outside Outside = outside
-
 -- a ramp's colour of an entry; outside, TRANSPARENT
 abbrev pub entry_color : List ℕ → Entry → ℕ
 entry_color cmap (At k) = get_or cmap k 0

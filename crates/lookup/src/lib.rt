@@ -3,7 +3,7 @@ ghost use Rattle.std.specs.Prelude.{◌≡◌, true, cond, ◌≤◌, ◌<◌, g
 ghost use Rattle.std.specs.Float.{nan};
 ghost use Rattle.floats.specs.RampIndex.{in_unit, lane_index};
 ghost use Rattle.lists.specs.Lanes.{LanesOf};
-ghost use Rattle.lookup.specs.Entries.{plain_entry, lane_entry, entry_or_2, entry_color};
+ghost use Rattle.lookup.specs.Entries.{plain_entry, lane_entry, entry_color};
 ghost use Rattle.lookup.specs.forms.UnitOrZero.{unit_or_zero};
 
 use color::Color;
@@ -37,26 +37,6 @@ pub fn get_entry_lane(fraction: f32) -> Entry
         }
     }
     Entry::Outside
-}
-
-// The entries of sixteen fractions, another number for a fraction outside.
-pub fn get_entries(fraction: [f32; 16], outside: u32) -> [u32; 16]
-    ensures { LanesOf 0 16 (λ k. entry_or_2 outside (plain_entry (get_or fraction k nan))) result }
-{
-    let mut result = [0u32; 16];
-    let mut i: usize = 0;
-    while i < 16 {
-        result[i] = entry_or(fraction[i], outside);
-        i += 1;
-    }
-    result
-}
-
-fn entry_or(fraction: f32, outside: u32) -> u32
-    ensures { result ≡ entry_or_2 outside (plain_entry fraction) }
-{
-    let index = round::nearest(unit_or_zero(fraction) * 255.0);
-    select::pick(in_unit(fraction), index as u32, outside)
 }
 
 // The colour of a fraction.

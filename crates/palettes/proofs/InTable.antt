@@ -59,9 +59,9 @@ room (l ∷ ls) zero h = omega (arith, length-append l (flatten ls))
 room (l ∷ ls) (suc n) h = omega (arith, length-append l (flatten ls), length-append l (flatten (take n ls)), room ls n (le_of_suc-le-suc h))
 
 module _ (number : ℕ) (h : number < 32) where
-  pub in_table_lem : (i : ℕ) → i < length (palette number) → get_or palette_table (offset number + i) 0 ≡ get_or (palette number) i 0
+  pub in_table : (i : ℕ) → i < length (palette number) → get_or palette_table (offset number + i) 0 ≡ get_or (palette number) i 0
   unfolding palette_table offset begins
-  in_table_lem i k = part palettes number i (unfold palettes in h) k
+  in_table i k = part palettes number i (unfold palettes in h) k
 
   pub offset_room : offset number + length (palette number) ≤ 304
   unfolding offset begins palettes flatten

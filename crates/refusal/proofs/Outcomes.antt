@@ -6,7 +6,7 @@ use Rattle.refusal.specs.declared.Refusal.{Refusal}
 use Rattle.refusal.specs.declared.Refusal.TheVariants.{EmptyText, NotHexColor, NotHexByte, TooFewColors, TooManyColors, NoSuchPalette, StartAboveEnd}
 use Rattle.refusal.specs.declared.Refusal.TheVariants.{TooManyBands, ColorCountDiffers, EmptyRange, TooManyCategories, RangeTooWide}
 use Rattle.refusal.specs.declared.Refusal.TheVariants.{OutputLengthDiffers, NoSuchLaneCount, ScratchTooShort, CountAboveCapacity, KeyOutOfRange}
-use Rattle.refusal.specs.declared.Refusal.TheVariants.{CardUnknown, CardMalformed, CardTooLong, TallyFull, BadFlag, BadKind}
+use Rattle.refusal.specs.declared.Refusal.TheVariants.{CardUnknown, CardMalformed, CardTooLong, BadFlag, BadKind}
 use Rattle.refusal.specs.declared.Answer.{Answer}
 use Rattle.refusal.specs.declared.Answer.TheVariants.{Done, Refused}
 use Rattle.refusal.specs.Outcome.{refuse_if, if_done, first_of}
@@ -58,7 +58,6 @@ numbered (KeyOutOfRange i) e = omega arith
 numbered CardUnknown e = omega arith
 numbered CardMalformed e = omega arith
 numbered CardTooLong e = omega arith
-numbered TallyFull e = omega arith
 numbered BadFlag e = omega arith
 numbered BadKind e = omega arith
 

@@ -4,7 +4,7 @@ use Rattle.refusal.specs.declared.Refusal.{Refusal}
 use Rattle.refusal.specs.declared.Refusal.TheVariants.{EmptyText, NotHexColor, NotHexByte, TooFewColors, TooManyColors, NoSuchPalette, StartAboveEnd}
 use Rattle.refusal.specs.declared.Refusal.TheVariants.{TooManyBands, ColorCountDiffers, EmptyRange, TooManyCategories, RangeTooWide}
 use Rattle.refusal.specs.declared.Refusal.TheVariants.{OutputLengthDiffers, NoSuchLaneCount, ScratchTooShort, CountAboveCapacity, KeyOutOfRange}
-use Rattle.refusal.specs.declared.Refusal.TheVariants.{CardUnknown, CardMalformed, CardTooLong, TallyFull, BadFlag, BadKind}
+use Rattle.refusal.specs.declared.Refusal.TheVariants.{CardUnknown, CardMalformed, CardTooLong, BadFlag, BadKind}
 use Rattle.refusal.specs.declared.Index.{Index}
 use Rattle.refusal.specs.declared.Index.TheVariants.{At, Absent}
 use Rattle.refusal.specs.declared.Answer.{Answer}
@@ -37,8 +37,6 @@ number_of (KeyOutOfRange key) = 17
 number_of CardUnknown = 18
 number_of CardMalformed = 19
 number_of CardTooLong = 20
--- tallies
-number_of TallyFull = 21
 -- the interface for C
 number_of BadFlag = 100
 number_of BadKind = 101
@@ -65,7 +63,6 @@ index_of (KeyOutOfRange key) = At key
 index_of CardUnknown = Absent
 index_of CardMalformed = Absent
 index_of CardTooLong = Absent
-index_of TallyFull = Absent
 index_of BadFlag = Absent
 index_of BadKind = Absent
 

@@ -25,7 +25,6 @@ pub enum Refusal {
     CardUnknown,
     CardMalformed,
     CardTooLong,
-    TallyFull,
     BadFlag,
     BadKind,
 }
@@ -70,7 +69,6 @@ impl Refusal {
             Refusal::CardUnknown => 18,
             Refusal::CardMalformed => 19,
             Refusal::CardTooLong => 20,
-            Refusal::TallyFull => 21,
             Refusal::BadFlag => 100,
             Refusal::BadKind => 101,
         }
@@ -101,7 +99,6 @@ impl Refusal {
             Refusal::CardUnknown => Index::Absent,
             Refusal::CardMalformed => Index::Absent,
             Refusal::CardTooLong => Index::Absent,
-            Refusal::TallyFull => Index::Absent,
             Refusal::BadFlag => Index::Absent,
             Refusal::BadKind => Index::Absent,
         }

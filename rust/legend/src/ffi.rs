@@ -19,7 +19,7 @@ pub struct LegendAnswer {
 #[derive(Debug, Clone, Copy, PartialEq, Eq)]
 #[repr(C)]
 pub struct LegendColor {
-    /// Refused: 1, 2, 3.
+    /// Refused: of text 1, 2, 3; of a sample 16, [`BAD_FLAG`], [`BAD_KIND`].
     pub answer: LegendAnswer,
     /// The colour.
     pub color: Color,
@@ -45,48 +45,6 @@ pub struct LegendRamp {
     pub answer: LegendAnswer,
     /// The entries.
     pub colors: [Color; 256],
-}
-
-/// An entry of a ramp: `inside` is 1 where a fraction has one, else 0 with the entry 0.
-#[derive(Debug, Clone, Copy, PartialEq, Eq)]
-#[repr(C)]
-pub struct LegendEntry {
-    /// The entry, 0 to 255.
-    pub entry: usize,
-    /// Whether there is one.
-    pub inside: u32,
-}
-
-/// The colour of a sample, its rule, and the number of the ramp's entry or of the band. All 0 beside a refusal.
-#[derive(Debug, Clone, Copy, PartialEq, Eq)]
-#[repr(C)]
-pub struct LegendPixel {
-    /// Refused: 16, [`BAD_FLAG`], [`BAD_KIND`].
-    pub answer: LegendAnswer,
-    /// The colour.
-    pub color: Color,
-    /// The number of the rule, 0 to 11.
-    pub rule: u32,
-    /// The number of the entry or of the band, 0 for other rules.
-    pub number: usize,
-}
-
-/// How many samples each rule gave their colour, by the rules' numbers.
-#[derive(Debug, Clone, Copy, PartialEq, Eq, Default)]
-#[repr(C)]
-pub struct LegendTally {
-    /// The counts.
-    pub counts: [u64; 12],
-}
-
-/// A tally with a raster added; beside a refusal the one that was given.
-#[derive(Debug, Clone, Copy, PartialEq, Eq)]
-#[repr(C)]
-pub struct LegendTallied {
-    /// Refused: 16, 13, 21, [`BAD_FLAG`], [`BAD_KIND`].
-    pub answer: LegendAnswer,
-    /// The tally.
-    pub tally: LegendTally,
 }
 
 /// A sample as a key: `whole` is 1 where there is one, else 0 with the key 0.
@@ -358,8 +316,8 @@ unsafe extern "C" {
     fn legend_palette(number: usize) -> LegendPalette;
     fn legend_ramp_from_list(colors: *const Color, count: usize) -> LegendRamp;
     fn legend_ramp_from_palette(number: usize) -> LegendRamp;
-    fn legend_get_entry(fraction: f32) -> LegendEntry;
-    fn legend_get_entry_simd(fraction: f32) -> LegendEntry;
+    fn legend_get_color(ramp: *const [Color; 256], fraction: f32) -> Color;
+    fn legend_get_color_simd(ramp: *const [Color; 256], fraction: f32) -> Color;
     fn legend_to_i64(sample: f32) -> LegendKey;
     fn legend_create_linear(
         colors: *const Color,
@@ -441,7 +399,7 @@ unsafe extern "C" {
         value: f32,
         nodata_given: u32,
         nodata: f32,
-    ) -> LegendPixel;
+    ) -> LegendColor;
     fn legend_view_color_for_u8(
         view: LegendView,
         banded: LegendBanded,
@@ -452,7 +410,7 @@ unsafe extern "C" {
         value: u8,
         nodata_given: u32,
         nodata: u8,
-    ) -> LegendPixel;
+    ) -> LegendColor;
     fn legend_view_color_for_i16(
         view: LegendView,
         banded: LegendBanded,
@@ -463,7 +421,7 @@ unsafe extern "C" {
         value: i16,
         nodata_given: u32,
         nodata: i16,
-    ) -> LegendPixel;
+    ) -> LegendColor;
     fn legend_view_paint_f32(
         view: LegendView,
         banded: LegendBanded,
@@ -478,21 +436,6 @@ unsafe extern "C" {
         out: *mut Color,
         out_length: usize,
     ) -> LegendAnswer;
-    fn legend_view_paint_tallied_f32(
-        view: LegendView,
-        banded: LegendBanded,
-        cmap: *const [Color; 256],
-        keys: *const [i64; 256],
-        colors: *const [Color; 256],
-        lookup: *const [Color; 513],
-        src: *const f32,
-        src_length: usize,
-        nodata_given: u32,
-        nodata: f32,
-        out: *mut Color,
-        out_length: usize,
-        tally: LegendTally,
-    ) -> LegendTallied;
     fn legend_view_paint_u8(
         view: LegendView,
         banded: LegendBanded,
@@ -507,21 +450,6 @@ unsafe extern "C" {
         out: *mut Color,
         out_length: usize,
     ) -> LegendAnswer;
-    fn legend_view_paint_tallied_u8(
-        view: LegendView,
-        banded: LegendBanded,
-        cmap: *const [Color; 256],
-        keys: *const [i64; 256],
-        colors: *const [Color; 256],
-        lookup: *const [Color; 513],
-        src: *const u8,
-        src_length: usize,
-        nodata_given: u32,
-        nodata: u8,
-        out: *mut Color,
-        out_length: usize,
-        tally: LegendTally,
-    ) -> LegendTallied;
     fn legend_view_paint_i16(
         view: LegendView,
         banded: LegendBanded,
@@ -536,21 +464,6 @@ unsafe extern "C" {
         out: *mut Color,
         out_length: usize,
     ) -> LegendAnswer;
-    fn legend_view_paint_tallied_i16(
-        view: LegendView,
-        banded: LegendBanded,
-        cmap: *const [Color; 256],
-        keys: *const [i64; 256],
-        colors: *const [Color; 256],
-        lookup: *const [Color; 513],
-        src: *const i16,
-        src_length: usize,
-        nodata_given: u32,
-        nodata: i16,
-        out: *mut Color,
-        out_length: usize,
-        tally: LegendTally,
-    ) -> LegendTallied;
     fn legend_view_paint_lanes_f32(
         view: LegendView,
         banded: LegendBanded,
@@ -639,18 +552,18 @@ pub fn ramp_from_palette(number: usize) -> LegendRamp {
     unsafe { legend_ramp_from_palette(number) }
 }
 
-/// The entry of a fraction, by the plain rule.
+/// The colour at a fraction, by the plain rule.
 #[inline]
-pub fn get_entry(fraction: f32) -> LegendEntry {
-    // SAFETY: the call takes and gives plain values, and its contract asks nothing of them.
-    unsafe { legend_get_entry(fraction) }
+pub fn get_color(ramp: &[Color; 256], fraction: f32) -> Color {
+    // SAFETY: the reference is to the 256 words that the call reads, and the call does not keep it.
+    unsafe { legend_get_color(ramp, fraction) }
 }
 
-/// The entry of a fraction, by the rule of the lanes.
+/// The colour at a fraction, by the rule of the lanes.
 #[inline]
-pub fn get_entry_simd(fraction: f32) -> LegendEntry {
-    // SAFETY: the call takes and gives plain values, and its contract asks nothing of them.
-    unsafe { legend_get_entry_simd(fraction) }
+pub fn get_color_simd(ramp: &[Color; 256], fraction: f32) -> Color {
+    // SAFETY: the reference is to the 256 words that the call reads, and the call does not keep it.
+    unsafe { legend_get_color_simd(ramp, fraction) }
 }
 
 /// A sample truncated toward zero.
@@ -768,18 +681,12 @@ macro_rules! borrowed {
     };
 }
 
-/// The four calls for a type of sample.
+/// The three calls for a type of sample.
 macro_rules! sample_calls {
-    (
-        $type:ty,
-        $color:ident by $view_color:ident,
-        $paint:ident by $view_paint:ident,
-        $tallied:ident by $view_tallied:ident,
-        $lanes:ident by $view_lanes:ident
-    ) => {
+    ($type:ty, $color:ident by $view_color:ident, $paint:ident by $view_paint:ident, $lanes:ident by $view_lanes:ident) => {
         /// The colour of a sample of this type.
         #[inline]
-        pub fn $color(legend: &LegendRecord, value: $type, nodata_given: u32, nodata: $type) -> LegendPixel {
+        pub fn $color(legend: &LegendRecord, value: $type, nodata_given: u32, nodata: $type) -> LegendColor {
             // SAFETY: the references are to the arrays that the call reads, and it keeps none.
             unsafe { borrowed!($view_color(legend, value, nodata_given, nodata)) }
         }
@@ -799,22 +706,6 @@ macro_rules! sample_calls {
             unsafe {
                 borrowed!($view_paint(legend, src.as_ptr(), pixels, nodata_given, nodata, out.as_mut_ptr(), room))
             }
-        }
-
-        /// Paints a raster of this type sample by sample, and adds it to a tally.
-        #[inline]
-        pub fn $tallied(
-            legend: &LegendRecord,
-            src: &[$type],
-            nodata_given: u32,
-            nodata: $type,
-            out: &mut [Color],
-            tally: LegendTally,
-        ) -> LegendTallied {
-            let (pixels, room) = (src.len(), out.len());
-            let (src, out) = (src.as_ptr(), out.as_mut_ptr());
-            // SAFETY: as for plain painting.
-            unsafe { borrowed!($view_tallied(legend, src, pixels, nodata_given, nodata, out, room, tally)) }
         }
 
         /// Paints a raster of this type in lanes.
@@ -842,21 +733,18 @@ sample_calls!(
     f32,
     color_for_f32 by legend_view_color_for_f32,
     paint_f32 by legend_view_paint_f32,
-    paint_tallied_f32 by legend_view_paint_tallied_f32,
     paint_lanes_f32 by legend_view_paint_lanes_f32
 );
 sample_calls!(
     u8,
     color_for_u8 by legend_view_color_for_u8,
     paint_u8 by legend_view_paint_u8,
-    paint_tallied_u8 by legend_view_paint_tallied_u8,
     paint_lanes_u8 by legend_view_paint_lanes_u8
 );
 sample_calls!(
     i16,
     color_for_i16 by legend_view_color_for_i16,
     paint_i16 by legend_view_paint_i16,
-    paint_tallied_i16 by legend_view_paint_tallied_i16,
     paint_lanes_i16 by legend_view_paint_lanes_i16
 );
 

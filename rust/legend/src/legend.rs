@@ -1,7 +1,7 @@
 use crate::ffi::{
     self, LegendBand, LegendBanded, LegendCategoric, LegendLinear, LegendMade, LegendRange, LegendRanges, LegendRecord,
 };
-use crate::{Color, Pixel, Ramp, Refusal, Sample, Settings, Tally};
+use crate::{Color, Ramp, Refusal, Sample, Settings};
 use std::ops::{Range, RangeInclusive};
 
 /// A band of a legend: the samples from `start` on that are below `end`, and their colour.
@@ -121,7 +121,7 @@ impl Legend {
     /// use legend::{Legend, Palette, Ramp, Refusal, Settings};
     /// let ramp = Ramp::from_palette(Palette::Blues);
     /// let legend = Legend::linear(&ramp, 0.0..=1.0, Settings::default())?;
-    /// assert_eq!(legend.color_for_value(0.25f32, None)?.color, ramp.color(Ramp::entry(0.25)));
+    /// assert_eq!(legend.color_for_value(0.25f32, None)?, ramp.color(0.25));
     /// assert_eq!(Legend::linear(&ramp, 1.0..=0.0, Settings::default()), Err(Refusal::StartAboveEnd));
     /// # Ok::<(), Refusal>(())
     /// ```
@@ -147,7 +147,7 @@ impl Legend {
     /// let [low, high] = [Color::rgb(1, 1, 1), Color::rgb(2, 2, 2)];
     /// let legend = Legend::equal_bands(2, &[low, high], 0.0..=10.0, Settings::default())?;
     /// assert_eq!(legend.bands()[1].start, 5.0);
-    /// assert_eq!(legend.color_for_value(4u8, None)?.color, low);
+    /// assert_eq!(legend.color_for_value(4u8, None)?, low);
     /// # Ok::<(), Refusal>(())
     /// ```
     pub fn equal_bands<'a>(
@@ -213,7 +213,7 @@ impl Legend {
     /// let [water, wood] = [Color::rgb(0, 0, 255), Color::rgb(0, 99, 0)];
     /// let legend = Legend::categories_for_values(&[wood, water], &[7, 2], Settings::default())?;
     /// assert!(legend.categories().eq([(2, water), (7, wood)]));
-    /// assert_eq!(legend.color_for_value(7.9f32, None)?.color, wood);
+    /// assert_eq!(legend.color_for_value(7.9f32, None)?, wood);
     /// # Ok::<(), legend::Refusal>(())
     /// ```
     pub fn categories_for_values<'a>(
@@ -282,10 +282,10 @@ impl Legend {
 
 /// Colouring.
 impl Legend {
-    /// The colour of a sample, and the rule that gave it. A sample that equals `nodata` has the nodata colour.
-    pub fn color_for_value<T: Sample>(&self, value: T, nodata: Option<T>) -> Result<Pixel, Refusal> {
+    /// The colour of a sample. A sample that equals `nodata` has the nodata colour.
+    pub fn color_for_value<T: Sample>(&self, value: T, nodata: Option<T>) -> Result<Color, Refusal> {
         let said = T::color(&self.0, value, nodata);
-        Refusal::unless(said.answer, Pixel::of(&said))
+        Refusal::unless(said.answer, said.color)
     }
 
     /// Paints a raster sample by sample, each as [`Legend::color_for_value`] has it. Where it is refused `out` is as it
@@ -305,42 +305,13 @@ impl Legend {
         Refusal::unless(T::paint(&self.0, raster, nodata, out), ())
     }
 
-    /// Paints a raster as [`Legend::paint`] does, and adds it to a tally: each count grows by the number of samples that
-    /// its rule gave their colour. Where it is refused `out` and `tally` are as they were.
-    ///
-    /// Refused beside what plain painting refuses, last of all: a count that has no room for the raster's length.
-    ///
-    /// ```
-    /// use legend::{Color, Legend, Palette, Ramp, Refusal, Rule, Settings, Tally};
-    /// let legend = Legend::linear(&Ramp::from_palette(Palette::Blues), 0.0..=9.0, Settings::default())?;
-    /// let mut out = [Color::TRANSPARENT; 3];
-    /// let mut tally = Tally::default();
-    /// legend.paint_tallied(&[0u8, 4, 99], Some(0), &mut out, &mut tally)?;
-    /// assert_eq!((tally[Rule::Nodata], tally[Rule::RampEntry], tally[Rule::High]), (1, 1, 1));
-    /// tally[Rule::Gap] = u64::MAX;
-    /// let full = legend.paint_tallied(&[0u8, 4, 99], Some(0), &mut out, &mut tally);
-    /// assert_eq!(full, Err(Refusal::TallyFull));
-    /// # Ok::<(), Refusal>(())
-    /// ```
-    pub fn paint_tallied<T: Sample>(
-        &self,
-        raster: &[T],
-        nodata: Option<T>,
-        out: &mut [Color],
-        tally: &mut Tally,
-    ) -> Result<(), Refusal> {
-        let said = T::paint_tallied(&self.0, raster, nodata, out, (*tally).into());
-        *tally = said.tally.into();
-        Refusal::unless(said.answer, ())
-    }
-
     /// Paints whole chunks of samples by the rule of lanes, and the rest sample by sample; a categoric legend without a
     /// table all sample by sample. `scratch` has 16 places or more. Afterwards its first places, as many as there are
     /// lanes, hold the last whole chunk's colours; the others are as they were, and so are all where there was no whole
     /// chunk, or where a categoric legend has no table. Where it is refused `out` and `scratch` are as they were.
     ///
     /// The rules give the same colours for categories. For a linear legend whose start is not above its end they differ
-    /// at one fraction, that of [`Ramp::lane_entry`]. For bands they give the same where bounds are finite, each band
+    /// at one fraction, that of [`Ramp::lane_color`]. For bands they give the same where bounds are finite, each band
     /// starts below its end and not below the end of the one before, and the first and the last are 1e-4 wide or more;
     /// other bands may have other colours in lanes.
     ///

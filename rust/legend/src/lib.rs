@@ -2,7 +2,6 @@
 //!
 //! A [`Legend`] is linear, banded or categoric. It is made of [`Settings`] and of colours, which are a list or a
 //! [`Ramp`] of 256 entries, and paints rasters of `f32`, `u8` or `i16` into lent buffers, sample by sample or in lanes.
-//! A [`Tally`] of a painting says how many samples each [`Rule`] gave their colour.
 //! It is stored as a card, one file of at most 3,349 bytes, and read back ([`Legend::to_card`], [`Legend::from_card`]).
 //! A [`Color`] is read from text or taken from a [`Palette`]. What a call refuses is a [`Refusal`], with the number of
 //! the table of refusals and an index where that names one; lent buffers are then as they were. Nothing here panics on
@@ -21,7 +20,7 @@
 //! let rain = [0.0f32, 10.0, 40.0, 41.0, f32::NAN];
 //! let mut out = [Color::TRANSPARENT; 5];
 //! legend.paint(&rain, None, &mut out)?;
-//! assert_eq!(out[1], blues.color(Ramp::entry(0.25)));
+//! assert_eq!(out[1], blues.color(0.25));
 //! assert_eq!(out[3..], [Color::rgb(255, 0, 255), Color::TRANSPARENT]);
 //!
 //! let short = legend.paint(&rain, None, &mut out[..4]);
@@ -41,10 +40,8 @@ mod legend;
 mod palette;
 mod ramp;
 mod refusal;
-mod rule;
 mod sample;
 mod settings;
-mod tally;
 
 pub use color::Color;
 pub use key::key;
@@ -52,7 +49,5 @@ pub use legend::{Band, Colors, Kind, Lanes, Legend, Parts};
 pub use palette::Palette;
 pub use ramp::Ramp;
 pub use refusal::Refusal;
-pub use rule::{Pixel, Rule};
 pub use sample::Sample;
 pub use settings::Settings;
-pub use tally::Tally;

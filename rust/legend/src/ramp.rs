@@ -6,9 +6,9 @@ use std::fmt;
 /// ```
 /// use legend::{Color, Palette, Ramp};
 /// let ramp = Ramp::from_palette(Palette::Blues);
-/// assert_eq!(ramp.color(Ramp::entry(0.0)), Palette::Blues.colors().next().unwrap());
-/// assert_eq!(Ramp::entry(1.0), Some(255));
-/// assert_eq!(ramp.color(Ramp::entry(f32::NAN)), Color::TRANSPARENT);
+/// assert_eq!(ramp.color(0.0), Palette::Blues.colors().next().unwrap());
+/// assert_eq!(ramp.colors()[255], ramp.color(1.0));
+/// assert_eq!(ramp.color(f32::NAN), Color::TRANSPARENT);
 /// ```
 #[derive(Clone, Copy, PartialEq, Eq, Hash)]
 pub struct Ramp([Color; 256]);
@@ -35,7 +35,7 @@ impl Ramp {
     /// ```
     /// use legend::{Color, Ramp};
     /// let grey = Ramp::from_entries(std::array::from_fn(|i| Color::rgb(i as u8, i as u8, i as u8)));
-    /// assert_eq!(grey.color(Ramp::entry(0.5)), Color::rgb(128, 128, 128));
+    /// assert_eq!(grey.color(0.5), Color::rgb(128, 128, 128));
     /// ```
     pub const fn from_entries(entries: [Color; 256]) -> Ramp {
         Ramp(entries)
@@ -46,34 +46,23 @@ impl Ramp {
         &self.0
     }
 
-    /// What a fraction is looked up as in any ramp: entry fraction × 255 to the nearest, halves up. None outside 0 to 1,
-    /// and for NaN.
-    ///
-    /// ```
-    /// use legend::Ramp;
-    /// assert_eq!((Ramp::entry(0.5), Ramp::entry(1.5)), (Some(128), None));
-    /// ```
-    pub fn entry(fraction: f32) -> Option<usize> {
-        let said = ffi::get_entry(fraction);
-        (said.inside == 1).then_some(said.entry)
+    /// The colour at a fraction: entry fraction × 255 to the nearest, halves up. Outside 0 to 1, and for NaN,
+    /// [`Color::TRANSPARENT`].
+    pub fn color(&self, fraction: f32) -> Color {
+        ffi::get_color(&self.0, fraction)
     }
 
     /// The same by the rule of lane painting: entry floor(fraction × 255 + 0.5), the sum rounded to `f32`, at most 255.
     /// The two differ at one fraction, 65,793 / 2^25.
     ///
     /// ```
-    /// use legend::Ramp;
+    /// use legend::{Color, Ramp};
+    /// let grey = Ramp::from_entries(std::array::from_fn(|i| Color::rgb(i as u8, i as u8, i as u8)));
     /// let close = 65_793.0 / 33_554_432.0;
-    /// assert_eq!((Ramp::entry(close), Ramp::lane_entry(close)), (Some(0), Some(1)));
+    /// assert_eq!((grey.color(close).r(), grey.lane_color(close).r()), (0, 1));
     /// ```
-    pub fn lane_entry(fraction: f32) -> Option<usize> {
-        let said = ffi::get_entry_simd(fraction);
-        (said.inside == 1).then_some(said.entry)
-    }
-
-    /// The colour of an entry; without one, or above 255, [`Color::TRANSPARENT`].
-    pub fn color(&self, entry: Option<usize>) -> Color {
-        entry.and_then(|entry| self.0.get(entry)).copied().unwrap_or(Color::TRANSPARENT)
+    pub fn lane_color(&self, fraction: f32) -> Color {
+        ffi::get_color_simd(&self.0, fraction)
     }
 }
 

@@ -55,8 +55,6 @@ pub enum Refusal {
     CardMalformed,
     /// A card's title is above 255 bytes, or the buffer is too short for the card.
     CardTooLong,
-    /// Some count of a tally plus the raster's length does not fit 64 bits.
-    TallyFull,
 }
 
 impl Refusal {
@@ -87,7 +85,6 @@ impl Refusal {
             Refusal::CardUnknown => 18,
             Refusal::CardMalformed => 19,
             Refusal::CardTooLong => 20,
-            Refusal::TallyFull => 21,
         }
     }
 
@@ -130,7 +127,6 @@ impl Refusal {
             18 => Refusal::CardUnknown,
             19 => Refusal::CardMalformed,
             20 => Refusal::CardTooLong,
-            21 => Refusal::TallyFull,
             number => unreachable!("the library's contracts give no refusal {number}"),
         })
     }
@@ -159,7 +155,6 @@ impl fmt::Display for Refusal {
             Refusal::CardUnknown => write!(f, "the card's mark, version or kind is not known"),
             Refusal::CardMalformed => write!(f, "the card breaks the layout"),
             Refusal::CardTooLong => write!(f, "the card's title is above 255 bytes, or the buffer is too short"),
-            Refusal::TallyFull => write!(f, "a count of the tally has no room for the raster"),
         }
     }
 }

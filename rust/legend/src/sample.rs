@@ -1,4 +1,4 @@
-use crate::ffi::{self, LegendAnswer, LegendPixel, LegendRecord, LegendTallied, LegendTally};
+use crate::ffi::{self, LegendAnswer, LegendColor, LegendRecord};
 use crate::{Color, Lanes};
 
 /// The type of a raster's samples: `f32`, `u8` or `i16`. Each becomes an `f32` without loss.
@@ -6,15 +6,8 @@ pub trait Sample: Calls {}
 
 /// The calls for a type of sample. Not to be named outside, so that the library's three types are all there are.
 pub trait Calls: Copy + Default {
-    fn color(legend: &LegendRecord, value: Self, nodata: Option<Self>) -> LegendPixel;
+    fn color(legend: &LegendRecord, value: Self, nodata: Option<Self>) -> LegendColor;
     fn paint(legend: &LegendRecord, raster: &[Self], nodata: Option<Self>, out: &mut [Color]) -> LegendAnswer;
-    fn paint_tallied(
-        legend: &LegendRecord,
-        raster: &[Self],
-        nodata: Option<Self>,
-        out: &mut [Color],
-        tally: LegendTally,
-    ) -> LegendTallied;
     fn paint_lanes(
         legend: &LegendRecord,
         lanes: Lanes,
@@ -31,11 +24,11 @@ fn flat<T: Default>(nodata: Option<T>) -> (u32, T) {
 }
 
 macro_rules! sample {
-    ($type:ty, $color:ident, $paint:ident, $paint_tallied:ident, $paint_lanes:ident) => {
+    ($type:ty, $color:ident, $paint:ident, $paint_lanes:ident) => {
         impl Sample for $type {}
 
         impl Calls for $type {
-            fn color(legend: &LegendRecord, value: $type, nodata: Option<$type>) -> LegendPixel {
+            fn color(legend: &LegendRecord, value: $type, nodata: Option<$type>) -> LegendColor {
                 let (given, nodata) = flat(nodata);
                 ffi::$color(legend, value, given, nodata)
             }
@@ -48,17 +41,6 @@ macro_rules! sample {
             ) -> LegendAnswer {
                 let (given, nodata) = flat(nodata);
                 ffi::$paint(legend, raster, given, nodata, out)
-            }
-
-            fn paint_tallied(
-                legend: &LegendRecord,
-                raster: &[$type],
-                nodata: Option<$type>,
-                out: &mut [Color],
-                tally: LegendTally,
-            ) -> LegendTallied {
-                let (given, nodata) = flat(nodata);
-                ffi::$paint_tallied(legend, raster, given, nodata, out, tally)
             }
 
             fn paint_lanes(
@@ -76,6 +58,6 @@ macro_rules! sample {
     };
 }
 
-sample!(f32, color_for_f32, paint_f32, paint_tallied_f32, paint_lanes_f32);
-sample!(u8, color_for_u8, paint_u8, paint_tallied_u8, paint_lanes_u8);
-sample!(i16, color_for_i16, paint_i16, paint_tallied_i16, paint_lanes_i16);
+sample!(f32, color_for_f32, paint_f32, paint_lanes_f32);
+sample!(u8, color_for_u8, paint_u8, paint_lanes_u8);
+sample!(i16, color_for_i16, paint_i16, paint_lanes_i16);

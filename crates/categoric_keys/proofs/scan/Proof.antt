@@ -10,7 +10,8 @@ use lib.IntN.{pos}
 use mir.Syntax.{w64}
 use mir.Val.{to_z, of_z}
 use mir.ValLaws.{to_z-of_z}
-use Rattle.categoric_table.specs.Found.{found_color}
+use Rattle.colormapper.specs.Rule.{rule_color}
+use Rattle.categoric_table.specs.Rule.{categoric_rule_colors}
 use Rattle.categoric_keys.proofs.FirstKey.{same_bits, found_at, found_nowhere}
 use Rattle.categoric_keys.proofs.scan.Statement.{statement}
 use Rattle.categoric_keys.proofs.scan.Tie as tie
@@ -39,7 +40,7 @@ returns c =
     let back = to_z-of_z w64 a.key s.ranges.key in
     let key = get_or a.keys.now i (pos 0) in
     let same = same_bits w64 key a.key (record { sfits = c.before.before.if12.given }) s.ranges.key c.before.if1.true in
-    sym (ap (found_color [] a.colors.now a.nodata)
+    sym (ap (rule_color (categoric_rule_colors [] a.colors.now a.nodata))
     (found_at a.keys.now a.key a.count i c.before.before.before.loop-test.true same (λ j q e. l.loop.invariant j q (e ∙ sym back))))
 
 loop-again : tie.Need-loop-preserved invariant-loop decreases-loop
@@ -54,7 +55,7 @@ returns-2 c =
     let s = l.before in
     let a = s.args in
     let back = to_z-of_z w64 a.key s.ranges.key in
-    sym (ap (found_color [] a.colors.now a.nodata)
+    sym (ap (rule_color (categoric_rule_colors [] a.colors.now a.nodata))
     (found_nowhere a.keys.now a.key a.count (λ j q e. l.loop.invariant j (omega arith) (e ∙ sym back))))
 
 pub scan-spec : {M : Type 1} → statement M

@@ -39,7 +39,7 @@ array-write-result c = search rules
 
 loop-again : tie.Need-loop-preserved invariant-loop decreases-loop
 unfolding mappable_in_table
-loop-again c = storing_turn c.before.before.before.loop.invariant (omega arith) (omega arith) (c.pick.ensures ∙ cc c.before.in-table.ensures)
+loop-again c = storing_turn c.before.before.before.loop.invariant (omega arith) (omega arith) (c.pick.ensures ∙ cc c.before.in_table.ensures)
 
 returns : tie.Need-returns invariant-loop decreases-loop
 returns c = lanes-stored c.before.loop.invariant (omega arith)

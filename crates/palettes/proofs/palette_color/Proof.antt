@@ -1,6 +1,6 @@
 -- `palette_color` meets its contract. Assumes nothing.
 use lib.ListN.{get_or-eq_default, length, get_or}
-use Rattle.palettes.proofs.InTable.{known, in_table_lem, offset_room}
+use Rattle.palettes.proofs.InTable.{known, in_table, offset_room}
 use Rattle.palettes.specs.Palettes.{palette, palette_table}
 use native.Mathlib.Omega.{arith}
 use Prim.Native.Nat.{◌+◌, ◌<◌}
@@ -42,7 +42,7 @@ returns-2 : tie.Need-returns-2
 returns-2 c =
     let l : c.before.before.before.before.args.index < length (palette c.before.before.before.before.args.number) = omega
     (arith, c.before.before.before.palette-length.ensures) in c.table-color.ensures
-    ∙ ap (λ k. get_or palette_table (k + c.before.before.before.before.args.index) 0) c.before.offset-of.ensures ∙ in_table_lem _ (known _ _ l) _ l
+    ∙ ap (λ k. get_or palette_table (k + c.before.before.before.before.args.index) 0) c.before.offset-of.ensures ∙ in_table _ (known _ _ l) _ l
 
 pub palette-color-spec : {M : Type 1} → statement M
 palette-color-spec =

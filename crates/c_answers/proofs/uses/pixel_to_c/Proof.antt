@@ -23,7 +23,7 @@ returns : tie.Need-returns
 unfolding pixel_to_c
 returns c =
     known (λ f. pixel_to_c f c.before.before.before.args.pixel) c.before.enum_told.given.1
-    (λ j. record { answer = (c.to-c.ensures ∙ ap answer_to_c c.before.enum_told.given.1) j; color = 0; rule = 0; number = 0 })
+    (λ j. record { answer = (c.to-c.ensures ∙ ap answer_to_c c.before.enum_told.given.1) j; color = 0 })
 
 returns-2 : tie.Need-returns-2
 unfolding pixel_to_c

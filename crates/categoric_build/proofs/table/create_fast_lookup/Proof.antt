@@ -42,8 +42,8 @@ module _ (c : tie.After-at invariant-loop decreases-loop) where
       index_from_0 s.args.keys.now s.args.count s.requires.1 s.requires.0 (is-there c.before.before.before) c.before.before.loop.i
       c.before.loop-test.true
 
-  in_table_lem : whole key_of < 513
-  in_table_lem =
+  in_table : whole key_of < 513
+  in_table =
       let s = c.before.before.before.before in
       index_in_table s.args.keys.now s.args.count s.requires.1 s.requires.0 (is-there c.before.before.before) c.before.before.loop.i
       c.before.loop-test.true
@@ -67,16 +67,16 @@ element-copy-out-at : tie.Need-element-copy-out-at invariant-loop decreases-loop
 element-copy-out-at c = search rules
 
 cast-at : tie.Need-overflow-cast-at invariant-loop decreases-loop
-cast-at c = (subst (λ z. T (non_neg z)) (sym (read c)) (cast_may (key_of c) (from-0 c)), record { fits = omega (arith, index_is c, in_table_lem c) })
+cast-at c = (subst (λ z. T (non_neg z)) (sym (read c)) (cast_may (key_of c) (from-0 c)), record { fits = omega (arith, index_is c, in_table c) })
 
 element-copy-out-lookup : tie.Need-element-copy-out-lookup invariant-loop decreases-loop
 element-copy-out-lookup c = search rules
 
 mul-lookup-2 : tie.Need-overflow-mul-lookup-2 invariant-loop decreases-loop
-mul-lookup-2 c = record { fits = omega (arith, index_is c.before, in_table_lem c.before) }
+mul-lookup-2 c = record { fits = omega (arith, index_is c.before, in_table c.before) }
 
 array-write-lookup : tie.Need-array-write-lookup invariant-loop decreases-loop
-array-write-lookup c = omega (arith, index_is c.before, in_table_lem c.before)
+array-write-lookup c = omega (arith, index_is c.before, in_table c.before)
 
 loop-again : tie.Need-loop-preserved invariant-loop decreases-loop
 loop-again c =

@@ -71,15 +71,12 @@ returns-21 c = sym (ap index_of c.enum-told18.given.1)
 returns-22 : tie.Need-returns-22
 returns-22 c = sym (ap index_of c.enum-told19.given.1)
 
-returns-23 : tie.Need-returns-23
-returns-23 c = sym (ap index_of c.enum-told20.given.1)
-
 pub index-spec : {M : Type 1} → statement M
 index-spec =
     tie.close
-    (tie.spec (λ c. search rules) (λ c. search rules) (λ c. search rules) (λ c. search rules) (λ c. search rules) (λ c. search rules) (λ c. search rules)
+    (tie.spec (λ c. search rules) (λ c. search rules) (λ c. search rules) (λ c. search rules) (λ c. search rules) (λ c. search rules)
     (λ c. search rules) (λ c. search rules) (λ c. search rules) (λ c. search rules) (λ c. search rules) (λ c. search rules)
     (λ c. search rules) (λ c. search rules) (λ c. search rules) (λ c. search rules) (λ c. search rules) (λ c. search rules)
     (λ c. search rules) (λ c. search rules) (λ c. search rules) (λ c. search rules) returns returns-2 returns-3 returns-4 returns-5
     returns-6 returns-7 returns-8 returns-9 returns-10 returns-11 returns-12 returns-13 returns-14 returns-15 returns-16 returns-17
-    returns-18 returns-19 returns-20 returns-21 returns-22 returns-23)
+    returns-18 returns-19 returns-20 returns-21 returns-22)
