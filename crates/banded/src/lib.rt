@@ -1,4 +1,6 @@
 // The banded legend: its record, its builders, and what the painters need of it (docs/RULES.md, "Banded").
+#![tactic(auto)]
+
 ghost use Rattle.std.specs.Prelude.{◌≡◌, [], ◌≤◌, length, take};
 ghost use Rattle.colormap.specs.Positions.{ramp_colors};
 ghost use Rattle.banded.specs.Record.{banded_of, counted, beside, banded_refusal};

@@ -1,5 +1,7 @@
 // The colours of sixteen samples, or of a chunk of as many as there are lanes, by a banded legend (docs/RULES.md, "Painting"). At most
 // 64 bands are counted. Ascending disjoint bands are searched by index, others scanned, as the caller asks.
+#![tactic(auto)]
+
 ghost use Rattle.std.specs.Prelude.{◌≡◌, true, ◌+◌, ◌≤◌, length, get_or, take};
 ghost use Rattle.std.specs.Float.{nan};
 ghost use Rattle.lists.specs.Lanes.{LanesOf};

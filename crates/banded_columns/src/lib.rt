@@ -1,5 +1,7 @@
 // A band of a banded legend, and an array of bands read by its columns: starts, ends and colours, and the outer bands' colours
 // (docs/RULES.md, "Banded").
+#![tactic(auto)]
+
 ghost use Rattle.std.specs.Prelude.{◌≡◌, map, min, take};
 ghost use Rattle.banded_columns.specs.declared.LegendBand.{LegendBand};
 ghost use Rattle.banded_columns.specs.Band.{holds};

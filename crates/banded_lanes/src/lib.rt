@@ -1,5 +1,7 @@
 // Lists of bands over a chunk of lanes: the colour of each lane (docs/RULES.md, "Banded"). A list comes as in `banded_rule`, with a
 // count of at most 64.
+#![tactic(auto)]
+
 pub mod edges;
 
 ghost use Rattle.std.specs.Prelude.{◌≡◌, false, cond, ◌||◌, ◌≤◌, get_or, take};

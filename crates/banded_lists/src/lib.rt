@@ -1,4 +1,6 @@
 // The bands that a builder stores: equal ones and those of manual ranges, in an array of 64 (docs/RULES.md, "Banded").
+#![tactic(auto)]
+
 ghost use Rattle.std.specs.Prelude.{◌≡◌, [], ◌≤◌, length, take};
 ghost use Rattle.banded_lists.specs.Padded.{padded_bands};
 ghost use Rattle.banded_lists.specs.EqualBands.{band_from, equal_bands, equal_refusal};

@@ -1,5 +1,7 @@
 // Painting f32 samples by a banded legend, plainly and in lanes (docs/RULES.md, "Painting"). The refusals are the caller's, who has
 // seen to it that at most 64 bands are counted. Ascending disjoint bands are searched by index, others scanned: checked once per painting.
+#![tactic(auto)]
+
 ghost use Rattle.std.specs.Prelude.{◌≡◌, true, map, ◌++◌, ◌+◌, ◌≤◌, length, take, drop};
 ghost use Rattle.banded_columns.specs.Order.{ascending_disjoint};
 ghost use Rattle.banded_rule.specs.forms.Columns.{from_columns};

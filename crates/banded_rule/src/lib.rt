@@ -2,6 +2,8 @@
 //
 // A list comes as three arrays and a count: an array of records cannot be lent, and one by value would be copied for each
 // sample. Every function here asks for a count of at most 64: its callers have refused a larger one (16) before.
+#![tactic(auto)]
+
 ghost use Rattle.std.specs.Prelude.{◌≡◌, cond, ◌≤◌, ◌<◌, get_or};
 ghost use Rattle.std.specs.Float.{nan};
 ghost use Rattle.lists.specs.Lanes.{Lanes};

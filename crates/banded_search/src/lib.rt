@@ -1,5 +1,7 @@
 // Ascending disjoint bands: at most one of them holds a sample, the one at its index (`banded_search::indices`; docs/RULES.md,
 // "Banded"). A list of bands comes as in `banded_rule`, with a count of at most 64.
+#![tactic(auto)]
+
 pub mod indices;
 
 ghost use Rattle.std.specs.Prelude.{◌≡◌, true, cond, ◌≤◌, get_or};

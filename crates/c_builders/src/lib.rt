@@ -1,4 +1,6 @@
 // The builders for C and Rust (include/legend.h). The flags of the settings are looked at first; else what the kind's builder says (docs/RULES.md).
+#![tactic(auto)]
+
 ghost use Rattle.std.specs.Prelude.{◌≡◌};
 ghost use Rattle.colormap.specs.Positions.{ramp_colors};
 ghost use Rattle.linear.specs.Made.{linear_of_ramp, linear_of_list};

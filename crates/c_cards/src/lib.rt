@@ -1,4 +1,6 @@
 // The calls for C and Rust (include/legend.h) that write and read cards.
+#![tactic(auto)]
+
 ghost use Rattle.std.specs.Prelude.{◌≡◌};
 ghost use Rattle.refusal.specs.declared.Answer.TheVariants.{Done};
 ghost use Rattle.card_read.specs.Reading.{legend_of_card, title_of_card};

@@ -1,5 +1,7 @@
 // The calls for C and Rust (include/legend.h) that answer a question and paint nothing: colours from text and palettes, ramps, keys, and what else a legend is
 // used for.
+#![tactic(auto)]
+
 mod colors;
 mod keys;
 mod ramps;

@@ -1,3 +1,5 @@
 // A legend as C holds it, and as C lends it (include/legend.h).
+#![tactic(auto)]
+
 pub mod record;
 pub mod view;

@@ -1,4 +1,6 @@
 // The bytes of a card: numbers, the lowest byte first, read from bytes and laid over them (docs/RULES.md, "Cards").
+#![tactic(auto)]
+
 ghost use Rattle.std.specs.Prelude.{◌≡◌, ◌+◌, ◌≤◌, ◌<◌, length};
 ghost use Rattle.card_bytes.specs.Numbers.{bytes_of, number_at, overwritten};
 

@@ -1,4 +1,6 @@
 // The layout of a card (docs/RULES.md, "Cards"): its definitions, in specs/, and the test of keys that the writer and the reader share.
+#![tactic(auto)]
+
 ghost use Rattle.std.specs.Prelude.{◌≡◌, ◌≤◌, length, take};
 ghost use Rattle.card_layout.specs.Stored.{keys_in_order};
 

@@ -1,4 +1,6 @@
 // Reads a card (docs/RULES.md, "Cards"): what is refused first (`refusals`), then the legend (`values`); and its title, as a part of its own bytes.
+#![tactic(auto)]
+
 mod parts;
 mod refusals;
 mod values;

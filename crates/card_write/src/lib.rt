@@ -1,4 +1,6 @@
 // Writes the card of a legend (docs/RULES.md, "Cards"): what is refused first (`refusals`), then its fields one after the other (`fields`).
+#![tactic(auto)]
+
 mod fields;
 mod refusals;
 

@@ -1,4 +1,6 @@
 // Samples and nodata values as f32, and an f32 as a whole number (docs/RULES.md, "Samples and settings" and "Categoric").
+#![tactic(auto)]
+
 ghost use Rattle.std.specs.Prelude.{◌≡◌, ◌≤◌, ◌<◌, ◌^◌};
 ghost use Rattle.cast.specs.Samples.{of_u8, of_i16};
 ghost use Rattle.cast.specs.Truncated.{truncated};

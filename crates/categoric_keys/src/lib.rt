@@ -1,5 +1,7 @@
 // How a categoric legend without a look-up table looks a sample up (docs/RULES.md, "Categoric"): among its keys. The count is that of a
 // record, and whoever uses a record has refused (16) one above capacity before: so the functions require that it is at most 256.
+#![tactic(auto)]
+
 ghost use Rattle.std.specs.Prelude.{◌≡◌, [], ◌≤◌};
 ghost use Rattle.colormapper.specs.Rule.{rule_color};
 ghost use Rattle.categoric_table.specs.Rule.{categoric_rule_colors};

@@ -1,4 +1,6 @@
 // The keys that a builder is given, in arrays of 256: those of a list and those of a range, and which are refused (docs/RULES.md, "Categoric").
+#![tactic(auto)]
+
 ghost use Rattle.std.specs.Prelude.{◌≡◌, false, ℕ, ◌≤◌, ◌<◌, pos, ◌+ℤ◌, length, take};
 ghost use Rattle.std.specs.Int.{w64};
 ghost use Rattle.std.proofs.Common.{SFits};

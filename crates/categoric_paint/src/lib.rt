@@ -1,4 +1,6 @@
 // Painting f32 samples by a categoric legend (docs/RULES.md, "Painting"): by its look-up table, or by its keys where it has none.
+#![tactic(auto)]
+
 pub mod keys;
 pub mod table;
 

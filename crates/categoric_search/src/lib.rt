@@ -1,5 +1,7 @@
 // Keys that ascend: sixteen samples searched for at once (docs/RULES.md, "Categoric"). The keys and the samples are narrowed
 // to i32 first (`categoric_search::narrow`).
+#![tactic(auto)]
+
 pub mod narrow;
 
 ghost use Rattle.std.specs.Prelude.{◌≡◌, cond, ◌*◌, ◌<◌, ◌≤◌, pos, get_or};

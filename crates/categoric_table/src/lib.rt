@@ -1,5 +1,7 @@
 // How a categoric legend with a look-up table looks a sample up (docs/RULES.md, "Categoric"). The size is that of a record, and whoever
 // uses a record has refused (16) one above capacity before: so the functions require that it is at most 513.
+#![tactic(auto)]
+
 ghost use Rattle.std.specs.Prelude.{◌≡◌, cond, ℕ, ◌≤◌, ◌<◌, T, get_or};
 ghost use Rattle.std.specs.Float.{nan};
 ghost use Rattle.floats.specs.RampIndex.{nought, floor_of};

@@ -1,4 +1,6 @@
 // Categoric legends: keys with colours, and a table of colours by key where the keys are small (docs/RULES.md, "Categoric").
+#![tactic(auto)]
+
 ghost use Rattle.std.specs.Prelude.{◌≡◌, ◌≤◌, length, take};
 ghost use Rattle.refusal.specs.declared.Answer.TheVariants.{Done};
 ghost use Rattle.lists.specs.Padded.{padded};

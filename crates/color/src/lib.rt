@@ -1,4 +1,6 @@
 // Colours, their words, and hex text (docs/RULES.md, "Colours and ramps").
+#![tactic(auto)]
+
 ghost use Rattle.std.specs.Prelude.{◌≡◌, ◌+◌, ◌*◌, ◌<◌, length};
 ghost use Rattle.color.specs.Word.{word_of, color_of, transparent};
 ghost use Rattle.color.specs.Hex.{hex_digit, hex_pair, pair_at, hex_form, of_pairs, hex_color};

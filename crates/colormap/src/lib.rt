@@ -1,4 +1,5 @@
 // Ramps (docs/RULES.md, "Colours and ramps").
+#![tactic(auto)]
 
 ghost use Rattle.std.specs.Prelude.{◌≡◌, ◌+◌, ◌*◌, ◌≤◌, ◌<◌, length};
 ghost use Rattle.colormap.specs.Spread.{channel, blend, spread_at, spread};

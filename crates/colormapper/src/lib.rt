@@ -1,4 +1,6 @@
 // Settings, and the colours of samples that a legend does not map (docs/RULES.md, "Samples and settings").
+#![tactic(auto)]
+
 ghost use Rattle.std.specs.Prelude.{◌≡◌, cond, ◌≤◌, get_or};
 ghost use Rattle.std.specs.Float.{nan};
 ghost use Rattle.floats.specs.RampIndex.{nought};

@@ -1,4 +1,6 @@
 // Legends of any kind: the record (docs/RULES.md).
+#![tactic(auto)]
+
 ghost use Rattle.std.specs.Prelude.{◌≡◌};
 ghost use Rattle.legend.specs.Record.{kind_number, kind_numbered, linear_legend, banded_legend, categoric_legend, empty_legend, stored_refusal};
 

@@ -1,5 +1,7 @@
 // Painting f32 rasters by a legend that is there by value (docs/RULES.md, "Painting"): its arrays are lent to the calls of `legend_scalar` and `legend_kernel`.
 // The list of its colours.
+#![tactic(auto)]
+
 ghost use Rattle.std.specs.Prelude.{◌≡◌};
 ghost use Rattle.lists.specs.Tabulate.{tabulate};
 ghost use Rattle.painting.specs.Paintings.{PlainPainting, LanePainting};

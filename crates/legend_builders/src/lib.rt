@@ -1,4 +1,6 @@
 // The builders of legends: a kind's builder and the settings (docs/RULES.md).
+#![tactic(auto)]
+
 ghost use Rattle.std.specs.Prelude.{◌≡◌};
 ghost use Rattle.colormap.specs.Positions.{ramp_colors};
 ghost use Rattle.linear.specs.Made.{linear_of_ramp, linear_of_list};

@@ -1,4 +1,6 @@
 // Painting rasters in lanes by a legend whose arrays are borrowed (docs/RULES.md, "Painting"). Samples are f32, u8 or i16.
+#![tactic(auto)]
+
 ghost use Rattle.std.specs.Prelude.{◌≡◌, cond, map, ◌≤◌, ◌<◌, length};
 ghost use Rattle.cast.specs.Samples.{of_u8, of_i16};
 ghost use Rattle.painting.specs.Painted.{scratch_after};

@@ -1,5 +1,7 @@
 // Painting f32 samples by a legend of any kind (docs/RULES.md, "Painting"), plainly with 0 lanes, else in lanes. The legend's arrays
 // are lent. The refusals are the caller's.
+#![tactic(auto)]
+
 ghost use Rattle.std.specs.Prelude.{◌≡◌, true, ◌≤◌, length};
 ghost use Rattle.refusal.specs.declared.Answer.TheVariants.{Done};
 ghost use Rattle.painting.specs.Paintings.{lane_count};

@@ -1,4 +1,6 @@
 // The colour of one sample by a legend whose arrays are borrowed (docs/RULES.md, "Samples and settings").
+#![tactic(auto)]
+
 ghost use Rattle.std.specs.Prelude.{◌≡◌};
 ghost use Rattle.refusal.specs.declared.Answer.TheVariants.{Done};
 ghost use Rattle.legend.specs.Record.{stored_refusal};

@@ -1,4 +1,6 @@
 // The whole range of a legend's values (docs/RULES.md, "Painting").
+#![tactic(auto)]
+
 ghost use Rattle.std.specs.Prelude.{◌≡◌, ◌≤◌, length, take};
 ghost use Rattle.refusal.specs.declared.Answer.TheVariants.{Done};
 ghost use Rattle.categoric_lists.specs.Keys.{keys_refusal};

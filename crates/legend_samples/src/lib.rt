@@ -1,5 +1,7 @@
 // Painting samples that are u8 or i16 by a legend of any kind: they are turned into f32 by blocks of 256. Plainly with 0 lanes, else in
 // lanes. The refusals are the caller's.
+#![tactic(auto)]
+
 ghost use Rattle.std.specs.Prelude.{◌≡◌, true, map, ◌++◌, ◌+◌, ◌-◌, ◌≤◌, min, length, take, drop};
 ghost use Rattle.refusal.specs.declared.Answer.TheVariants.{Done};
 ghost use Rattle.cast.specs.Samples.{of_u8, of_i16};

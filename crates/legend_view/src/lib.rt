@@ -1,4 +1,6 @@
 // A legend whose arrays are borrowed: what is left of it goes by value (docs/DECISIONS.md, "A legend's arrays are borrowed").
+#![tactic(auto)]
+
 ghost use Rattle.std.specs.Prelude.{◌≡◌, List, ℕ, ℤ};
 ghost use Rattle.legend.specs.Record.{stored_refusal, simd_supported};
 ghost use Rattle.legend_view.specs.Borrowed.{borrowed_legend, view_of};

@@ -1,4 +1,6 @@
 // The linear legend: a range of values over a ramp, its builders, and its colours out of range (docs/RULES.md, "Linear").
+#![tactic(auto)]
+
 ghost use Rattle.std.specs.Prelude.{◌≡◌};
 ghost use Rattle.linear.specs.Made.{empty_linear, range_refusal, linear_of_ramp, linear_of_list, linear_colors};
 

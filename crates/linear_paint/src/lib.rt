@@ -1,4 +1,6 @@
 // Painting f32 samples by a linear legend, plainly and in lanes (docs/RULES.md, "Painting"). The refusals are the caller's.
+#![tactic(auto)]
+
 ghost use Rattle.std.specs.Prelude.{◌≡◌, true, map, ◌++◌, ◌+◌, ◌≤◌, length, get_or, take, drop};
 ghost use Rattle.std.specs.Float.{nan};
 ghost use Rattle.lists.specs.Lanes.{LanesOf};

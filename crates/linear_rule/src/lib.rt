@@ -1,4 +1,6 @@
 // The rule of a linear legend at a mappable sample, plainly and in lanes (docs/RULES.md, "Linear").
+#![tactic(auto)]
+
 ghost use Rattle.std.specs.Prelude.{◌≡◌, cond, ◌≤◌, get_or};
 ghost use Rattle.std.specs.Float.{nan};
 ghost use Rattle.floats.specs.RampIndex.{nought};

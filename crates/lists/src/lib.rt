@@ -1,1 +1,2 @@
 // No code: definitions in specs/, laws in proofs/.
+#![tactic(auto)]

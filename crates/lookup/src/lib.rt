@@ -1,4 +1,6 @@
 // Looking a fraction up in a ramp, plainly and in lanes (docs/RULES.md, "Colours and ramps").
+#![tactic(auto)]
+
 ghost use Rattle.std.specs.Prelude.{◌≡◌, true, cond, ◌≤◌, ◌<◌, get_or};
 ghost use Rattle.std.specs.Float.{nan};
 ghost use Rattle.floats.specs.RampIndex.{in_unit, lane_index};

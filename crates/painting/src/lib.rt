@@ -1,5 +1,7 @@
 // What every kind of legend and every sample type shares in painting (docs/RULES.md, "Painting"): the refusals of a call, a chunk
 // taken from a raster and laid over an output, and the words kept in scratch.
+#![tactic(auto)]
+
 ghost use Rattle.std.specs.Prelude.{◌≡◌, true, ◌<◌, ◌≤◌, ◌+◌, length, take, drop};
 ghost use Rattle.std.specs.Float.{binary32};
 ghost use Rattle.std.specs.Float.Ieee.{of_bits};

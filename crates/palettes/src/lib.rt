@@ -1,4 +1,6 @@
 // Palettes (docs/RULES.md, "Colours and ramps"): one table of colours, with an offset and a length for each number.
+#![tactic(auto)]
+
 mod table;
 
 ghost use Rattle.std.specs.Prelude.{◌≡◌, ◌<◌, length, get_or};

@@ -1,4 +1,6 @@
 // The refusals of docs/RULES.md, and what a call answers: done, or refused.
+#![tactic(auto)]
+
 ghost use Rattle.std.specs.Prelude.{◌≡◌};
 ghost use Rattle.refusal.specs.Table.{number_of, index_of, answer_number, answer_index};
 

@@ -1,5 +1,7 @@
 // What calls answer, in the words of a row (crates/run_replay/README.md): refusals, ranges and records; and rows of single calls worked out
 // anew: palettes, hex texts, lookups in ramps, and samples as whole numbers.
+#![tactic(auto)]
+
 pub mod record;
 pub mod reply;
 

@@ -1,4 +1,6 @@
 // The samples of a row painted by a legend: one by one, plainly, and in 4, 8 and 16 lanes with what scratch then holds (crates/run_replay/README.md).
+#![tactic(auto)]
+
 pub mod paint;
 mod raster_f32;
 mod raster_i16;

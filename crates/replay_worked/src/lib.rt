@@ -1,4 +1,6 @@
 // A row of stored answers worked out anew: what it asks, and our answers in their places (crates/run_replay/README.md).
+#![tactic(auto)]
+
 ghost use Rattle.std.specs.Prelude.{◌≡◌};
 ghost use Rattle.replay_rows.specs.Parts.{first_difference};
 ghost use Rattle.replay_worked.specs.Worked.{legend_row, worked_row};

@@ -1,5 +1,7 @@
 // The Rust's `round` and `floor` on the small numbers that an index is made of, by one f64 sum and no branch:
 // 2^27 more than the number leaves 25 binary places, and the whole part stands in the bits above them.
+#![tactic(auto)]
+
 ghost use Rattle.std.specs.Prelude.{◌≡◌, T};
 ghost use Rattle.std.specs.Float.Ieee.{le, lt, of_bits};
 ghost use Rattle.std.specs.Float.{binary32};

@@ -1,5 +1,7 @@
 // Runs the twelve examples of docs/RULES.md over the calls themselves. Writes a line an example: its number, then the words
 // that it got, in the order of the table (crates/examples/specs/Examples.antt).
+#![tactic(auto)]
+
 mod legends;
 mod say;
 

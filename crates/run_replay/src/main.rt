@@ -1,4 +1,6 @@
 // Replays two files of stored answers (README.md): works each row out anew, and prints where they differ.
+#![tactic(auto)]
+
 mod tally;
 mod tell;
 

@@ -1,5 +1,7 @@
 // A first run: paints two fields of weather by three legends, plainly and in lanes, compares the paintings, and writes each as
 // a picture with its key into the folder that it runs in.
+#![tactic(auto)]
+
 mod field;
 mod legends;
 mod map;

@@ -1,4 +1,6 @@
 // A choice between two words without a branch, for the loops over lanes.
+#![tactic(auto)]
+
 ghost use Rattle.std.specs.Prelude.{◌≡◌, cond};
 
 // The first word where the flag is set, else the second: a select, which the compiler vectorises.

@@ -1,4 +1,6 @@
 // The values that words stand for, and the words of values.
+#![tactic(auto)]
+
 ghost use Rattle.std.specs.Prelude.{◌≡◌, ◌%◌, ◌^◌, ◌<◌};
 ghost use Rattle.std.specs.Int.Signed.{mag};
 ghost use Rattle.words.specs.Values.{word_as_number, float_of, bits_of, short_of, whole_of, signed_of, unsigned_of, low_of, high_of, at_most};
