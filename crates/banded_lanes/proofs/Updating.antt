@@ -4,7 +4,7 @@ use mathlib.Core.Path.{◌≡◌, refl, ◌∙◌}
 use mathlib.Core.List.{List}
 use native.Mathlib.Omega.{arith}
 use lib.ListN.{length, get_or, set, length-set}
-use lib.Seq.{get_or-set_same, get_or_set_other}
+use lib.Seq.{get_or-set_same, get_or-set_other}
 use borrow.Author.Count.{below_none, below_more}
 use Rattle.lists.specs.Lanes.{Lanes, LanesOf}
 use Rattle.lists.proofs.LanesOf.{lane_past, lanes-length, lanes-each}
@@ -25,9 +25,9 @@ module _ {A : Type 0} {z : A} {f : ℕ → A} {l : ℕ} {old : List A} where
       record {
         upto = omega arith;
         long = length-set r i x ∙ p.long;
-        new = below_more (λ k. get_or (set r i x) k z ≡ f k) i (λ k q. get_or_set_other r i k x z (λ (s : k ≡ i). omega arith) ∙ p.new k q)
+        new = below_more (λ k. get_or (set r i x) k z ≡ f k) i (λ k q. get_or-set_other r i k x z (λ (s : k ≡ i). omega arith) ∙ p.new k q)
             (get_or-set_same r i x z (omega (arith, p.long)) ∙ e);
-        rest = λ k q. get_or_set_other r i k x z (λ (s : k ≡ i). omega arith) ∙ p.rest k (omega arith);
+        rest = λ k q. get_or-set_other r i k x z (λ (s : k ≡ i). omega arith) ∙ p.rest k (omega arith);
       }
 
   -- of an array that held z from l on

@@ -6,7 +6,7 @@ use native.Mathlib.Nat.{zero-add}
 use native.Mathlib.Numerals.{add-one}
 use native.Mathlib.Omega.{arith}
 use lib.ListN.{length, get_or, take, drop, set, length-append, length-drop}
-use lib.Seq.{length-take-le, take_at, drop_at, drop-drop, take-suc, sets_eq, paste-zero}
+use lib.Seq.{length-take-le, take_at, drop_at, drop-drop, take-suc, sets-eq, paste-zero}
 use Rattle.card_bytes.specs.Numbers.{bytes_of, overwritten}
 use Rattle.card_bytes.proofs.Numbers.{length-bytes_of, bytes_of_split}
 
@@ -30,7 +30,7 @@ overwritten_front xs l = ap (λ (k : ℕ). xs ++ drop k l) (zero-add (length xs)
 
 pub set-overwritten : (at b : ℕ) (l : List ℕ) → at < length l → set l at b ≡ overwritten at (b ∷ []) l
 unfolding overwritten
-set-overwritten at b l h = sets_eq (b ∷ []) l at (omega arith)
+set-overwritten at b l h = sets-eq (b ∷ []) l at (omega arith)
 
 -- a second part from the first's end on
 pub overwritten_then : (at : ℕ) (xs ys l : List ℕ) → at + length xs ≤ length l

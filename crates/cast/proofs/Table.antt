@@ -33,9 +33,11 @@ below m e h = let l = ltb→lt (m * up e * 1) (513 * 1 * down e) h in omega arit
 first_fails : (p q : Bool) → T q → T (not (p && q)) → T (not p)
 first_fails true true u h = h
 first_fails false q u h = tt
+first_fails true false u h = elim u [ ]
 
 second_fails : (p q : Bool) → T p → T (not (p && q)) → T (not q)
 second_fails true q t h = h
+second_fails false q t h = elim t [ ]
 
 not_above : (m : ℕ) (e : ℤ) → T (not (lt minus_one (fin true m e) && lt (fin true m e) table_end)) → down e ≤ m * up e
 unfolding of_bits lt

@@ -53,6 +53,8 @@ cut_same s n d a c D C e =
 pub at_value : (x : Float) (s : Bool) (a c : ℕ) → 0 < c → HasValue x s a c → truncated x ≡ truncated_fraction s a c
 unfolding truncated
 at_value (fin t m e) s a c C h = ap (λ (b : Bool). truncated_fraction b (m * up e) (down e)) h.0 ∙ cut_same s (m * up e) (down e) a c (down_pos e) C h.1
+at_value lib.Ieee.nan s a c C h = elim h [ ]
+at_value (lib.Ieee.inf _) s a c C h = elim h [ ]
 
 -- ---- below 2^63 in size, and from there on
 pub inside : (s : Bool) (a c : ℕ) → a < 2 ^ 63 * c → truncated_fraction s a c ≡ Whole (signed s (a / c))

@@ -1,7 +1,7 @@
 -- The test of a sample, and the place that the code reads, are what the rule with a table says. Assumes nothing.
 use mathlib.Core.Path.{◌≡◌, refl, sym, ap, ◌∙◌, subst}
 use mathlib.Core.List.{List, []}
-use mathlib.Core.Bool.{Bool, true, false, not, cond, ◌&&◌, and_true, true≢false}
+use mathlib.Core.Bool.{Bool, true, false, not, cond, ◌&&◌, and-true, true≢false}
 use Prim.Native.Nat.{ℕ, zero, suc, ◌+◌, ◌*◌, ◌/◌, ◌^◌, ◌≤◌, ◌<◌}
 use native.Mathlib.Nat.{le_trans, mul_right_comm, mul-lt-mul_of_pos_right, lt_of_mul-lt-mul_right, div-lt_iff_lt-mul, le-div_iff_mul-le, mul-pos}
 use native.Mathlib.Omega.{arith}
@@ -165,7 +165,7 @@ negative_looked : (n m : ℕ) (e : ℤ) → suc n ≤ 513 → Looked (suc n) (fi
 unfolding in_table
 negative_looked n m e h =
     by_test (lt minus_one (fin true m e)) (table_rule (suc n) (truncated (fin true m e))) (word 0) unknown (near n m e) (away (suc n) h (fin true m e))
-    ∙ sym (ap (λ (b : Bool). cond b (word 0) unknown) (and_true (lt minus_one (fin true m e))))
+    ∙ sym (ap (λ (b : Bool). cond b (word 0) unknown) (and-true (lt minus_one (fin true m e))))
     ∙ sym (ap (λ (b : Bool). cond (lt minus_one (fin true m e) && b) (word 0) unknown) (negative-below m e (size_limit (suc n)) n (limit-value n h)))
     ∙ sym (ap (λ (k : ℕ). cond (in_table (suc n) (fin true m e)) (word k) unknown) (negative_place (suc n) m e))
 

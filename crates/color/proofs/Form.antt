@@ -1,7 +1,7 @@
 -- Hex text, by what the tests of the code show: its form, its length, and what it is read as. Assumes nothing.
 use Prim.Native.Nat.{ℕ, ◌≤◌}
 use mathlib.Core.Path.{◌≡◌, refl, sym, ◌∙◌}
-use mathlib.Core.Bool.{Bool, true, false, not, ◌||◌, and_true, and_false}
+use mathlib.Core.Bool.{Bool, true, false, not, ◌||◌, and-true, and-false}
 use mathlib.Core.List.{List, [], ◌∷◌}
 use mathlib.Core.Logic.{◌⊎◌, inl, inr, ⊎_elim}
 use native.Mathlib.Omega.{arith}
@@ -25,13 +25,13 @@ module _ (text : List ℕ) where
   -- `OneOf` is what the code's `match` tells
   pub right_length : OneOf (7 ∷ 9 ∷ []) (length text) → hex_form text ≡ eqb (get_or text 0 0) 35
   unfolding hex_form
-  right_length (inl e) = rw (e, and_true)
-  right_length (inr e) = rw (e, and_true)
+  right_length (inl e) = rw (e, and-true)
+  right_length (inr e) = rw (e, and-true)
 
   pub wrong_length : (OneOf (7 ∷ 9 ∷ []) (length text) → ⊥) → hex_form text ≡ false
   unfolding hex_form
   wrong_length h =
-      rw (ne_eqb (length text) 7 (λ e. h (inl e)), ne_eqb (length text) 9 (λ e. h (inr e)), and_false)
+      rw (ne_eqb (length text) 7 (λ e. h (inl e)), ne_eqb (length text) 9 (λ e. h (inr e)), and-false)
 
   lengths : hex_form text ≡ true → (length text ≡ 7) ⊎ (length text ≡ 9)
   unfolding hex_form

@@ -103,6 +103,8 @@ beyond f E lo hi (fin t n d) p q w h =
     le_le E (sub f hi lo) (abs (sub f v lo)) w
     (le_le (sub f hi lo) (sub f v lo) (abs (sub f v lo)) (sub_mono f hi v lo lo q tt p p h (le_refl_float lo (finite_real lo p)))
     (abs_ge (sub f v lo) (sub_real f v lo tt p)))
+beyond f E nan hi (inf t) p q w h = elim p [ ]
+beyond f E (inf _) hi (inf t) p q w h = elim p [ ]
 
 -- and up to lo nothing is within E of hi
 pub before : (f : Format) (E lo hi v : Float) → T (finite lo) → T (finite hi) → T (not (is_nan v)) → T (le E (sub f hi lo)) → T (le v lo)
@@ -116,3 +118,5 @@ before f E lo hi (fin t n d) p q r w h =
     (le_le E (sub f hi lo) (abs (sub f hi v)) w
     (le_le (sub f hi lo) (sub f hi v) (abs (sub f hi v)) (sub_mono f hi hi lo v q q p tt (le_refl_float hi (finite_real hi q)) h)
     (abs_ge (sub f hi v) (sub_real f hi v q tt))))
+before f E lo nan (inf t) p q r w h = elim q [ ]
+before f E lo (inf _) (inf t) p q r w h = elim q [ ]

@@ -157,11 +157,21 @@ add_mono f (fin s m e) (fin s' m' e') (fin t n d) (fin t' n' d') p p' q q' h g =
     rw (add_at f K s m e t n d (omega arith) (omega arith), add_at f K s' m' e' t' n' d' (omega arith) (omega arith))
     (sum_mono f B s (size_at K m e) t (size_at K n d) s' (size_at K m' e') t' (size_at K n' d') (2 ^ K) (pow_pos K) (omega arith) (omega arith) (omega arith)
     (omega arith) (omega arith))
+add_mono f nan _ y _ p p' q q' h g = elim p [ ]
+add_mono f (inf _) _ y _ p p' q q' h g = elim p [ ]
+add_mono f (fin s m e) nan y _ p p' q q' h g = elim p' [ ]
+add_mono f (fin s m e) (inf _) y _ p p' q q' h g = elim p' [ ]
+add_mono f (fin s m e) (fin s' m' e') nan _ p p' q q' h g = elim q [ ]
+add_mono f (fin s m e) (fin s' m' e') (inf _) _ p p' q q' h g = elim q [ ]
+add_mono f (fin s m e) (fin s' m' e') (fin t n d) nan p p' q q' h g = elim q' [ ]
+add_mono f (fin s m e) (fin s' m' e') (fin t n d) (inf _) p p' q q' h g = elim q' [ ]
 
 -- ---- differences
 neg_finite : (x : Float) → T (finite x) → T (finite (neg x))
 unfolding neg
 neg_finite (fin s m e) p = p
+neg_finite nan p = elim p [ ]
+neg_finite (inf _) p = elim p [ ]
 
 pub sub_mono : (f : Format) (x x' y y' : Float) → T (finite x) → T (finite x') → T (finite y) → T (finite y') → T (le x x') → T (le y' y)
     → T (le (sub f x y) (sub f x' y'))
@@ -211,3 +221,7 @@ mul_mono_by f (fin s m e) (fin t l g) n d p q h =
     rw (mul_at f K s m e n d (omega arith), mul_at f K t l g n d (omega arith))
     (round_signed f (suc (X * N + Y * N)) (2 ^ K * down d) s t (X * N) (Y * N) (mul-pos (pow_pos K) (down_pos d)) (omega arith) (omega arith)
     (off_scale B X Y N s t (omega arith) (omega arith) k))
+mul_mono_by f nan y n d p q h = elim p [ ]
+mul_mono_by f (inf _) y n d p q h = elim p [ ]
+mul_mono_by f (fin s m e) nan n d p q h = elim q [ ]
+mul_mono_by f (fin s m e) (inf _) n d p q h = elim q [ ]

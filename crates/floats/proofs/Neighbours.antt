@@ -77,6 +77,18 @@ sides false m e (fin false n d) (fin false n' d') g k f a b G x y =
       | inl l ↦ inl (key→le 149 B (fin false m e) (fin false n d) (F.1, omega arith) (D, omega arith) (omega (arith, z.1 m)))
       | inr l ↦ inr (key→le 149 B (fin false n' d') (fin false m e) (D', omega arith) (F.1, omega arith) (omega (arith, z.1 m)))
     ]
+sides false m e nan t g k f a b G x y = elim a [ ]
+sides false m e (inf _) t g k f a b G x y = elim a [ ]
+sides false m e (fin false n d) nan g k f a b G x y = elim b [ ]
+sides false m e (fin false n d) (inf _) g k f a b G x y = elim b [ ]
+sides false m e (fin false n d) (fin true n' d') g k f a b G x y = elim b [ ]
+sides false m e (fin true n d) t g k f a b G x y = elim a [ ]
+sides true m e nan t g k f a b G x y = elim a [ ]
+sides true m e (inf _) t g k f a b G x y = elim a [ ]
+sides true m e (fin false n d) nan g k f a b G x y = elim b [ ]
+sides true m e (fin false n d) (inf _) g k f a b G x y = elim b [ ]
+sides true m e (fin false n d) (fin true n' d') g k f a b G x y = elim b [ ]
+sides true m e (fin true n d) t g k f a b G x y = elim a [ ]
 
 pub sep : (b : ℕ) (x : Float) → T (gap b) → T (fits binary32 x) → T (finite x) → T (le x (of_bits binary32 b)) ⊎ T (le (of_bits binary32 (suc b)) x)
 sep b (fin s m e) t f _ =
@@ -88,3 +100,5 @@ sep b (fin s m e) t f _ =
     let t₂ = and_r (plus? q) (X && Y) t₁ in
     sides s m e p q (digits b) (field b) f (and_l (plus? p) (plus? q && (X && Y)) t) (and_l (plus? q) (X && Y) t₁) (omega arith)
     (eqb→eq (size_of 149 p) (digits b * 2 ^ field b) (and_l X Y t₂)) (eqb→eq (size_of 149 q) (suc (digits b) * 2 ^ field b) (and_r X Y t₂))
+sep b nan t f x4 = elim x4 [ ]
+sep b (inf _) t f x6 = elim x6 [ ]

@@ -5,7 +5,7 @@ use mathlib.Core.Path.{◌≡◌, refl, sym, ap, ap₂, ◌∙◌}
 use mathlib.Core.Logic.{◌⊎◌, inl, inr, ◌≢◌}
 use Prim.Native.Nat.{ℕ, suc, ◌+◌, ◌-◌, ◌*◌, ◌^◌, ◌≤◌, ◌<◌}
 use native.Mathlib.Nat.{le_of_lt, le_of_eq, le_refl, mul_comm, mul_assoc, mul_left_comm, mul-lt-mul_of_pos_right, lt_of_mul-lt-mul_right}
-use native.Mathlib.Nat.{eq_of_mul_eq_mul_right, add-sub_of_le, add-mul, zero-mul, eq-or-lt_of_le}
+use native.Mathlib.Nat.{eq_of_mul-eq-mul_right, add-sub_of_le, add-mul, zero-mul, eq-or-lt_of_le}
 use native.Mathlib.Omega.{arith}
 use mathlib.Core.Bool.{Bool, true, false, not, ◌||◌, beq}
 use lib.IntN.{ℤ, pos, negsuc}
@@ -54,7 +54,7 @@ lt_over a b x y c d C D p q h =
     lt_of_mul-lt-mul_right d (rw p at (rw q at k))
 
 eq_over : (a b x y c d : ℕ) → 0 < d → a * c ≡ x * d → b * c ≡ y * d → a ≡ b → x ≡ y
-eq_over a b x y c d D p q h = eq_of_mul_eq_mul_right d D x y (sym p ∙ ap (λ (z : ℕ). z * c) h ∙ q)
+eq_over a b x y c d D p q h = eq_of_mul-eq-mul_right d D x y (sym p ∙ ap (λ (z : ℕ). z * c) h ∙ q)
 
 -- ---- the key
 abbrev pub off : ℕ → Bool → ℕ → ℕ
@@ -117,12 +117,12 @@ module _ (a b x y : ℕ) (r : Ratio a b x y) where
 
   none→ : a + b ≡ 0 → x + y ≡ 0
   none→ h =
-      eq_of_mul_eq_mul_right r.d r.D (x + y) 0 (add-mul x y r.d ∙ ap₂ (λ (u v : ℕ). u + v) (sym r.p) (sym r.q) ∙ sym (add-mul a b r.c)
+      eq_of_mul-eq-mul_right r.d r.D (x + y) 0 (add-mul x y r.d ∙ ap₂ (λ (u v : ℕ). u + v) (sym r.p) (sym r.q) ∙ sym (add-mul a b r.c)
       ∙ ap (λ (z : ℕ). z * r.c) h ∙ zero-mul r.c ∙ sym (zero-mul r.d))
 
   none← : x + y ≡ 0 → a + b ≡ 0
   none← h =
-      eq_of_mul_eq_mul_right r.c r.C (a + b) 0 (add-mul a b r.c ∙ ap₂ (λ (u v : ℕ). u + v) r.p r.q ∙ sym (add-mul x y r.d)
+      eq_of_mul-eq-mul_right r.c r.C (a + b) 0 (add-mul a b r.c ∙ ap₂ (λ (u v : ℕ). u + v) r.p r.q ∙ sym (add-mul x y r.d)
       ∙ ap (λ (z : ℕ). z * r.d) h ∙ zero-mul r.d ∙ sym (zero-mul r.c))
 
   below→ : (B : ℕ) (s t : Bool) → x < B → y < B → T (below s a t b) → off B s x < off B t y
@@ -425,6 +425,8 @@ zeros_equal s t e d =
 pub finite_real : (x : Float) → T (finite x) → T (not (is_nan x))
 unfolding is_nan
 finite_real (fin s m e) p = tt
+finite_real nan p = elim p [ ]
+finite_real (inf _) p = elim p [ ]
 
 -- between two finite values lie finite values
 pub between : (lo x hi : Float) → T (finite lo) → T (finite hi) → T (le lo x) → T (le x hi) → T (finite x)
@@ -433,3 +435,13 @@ between (fin s m e) nan (fin t n d) p q h k = h
 between (fin s m e) (inf true) (fin t n d) p q h k = h
 between (fin s m e) (inf false) (fin t n d) p q h k = k
 between (fin s m e) (fin u l g) (fin t n d) p q h k = tt
+between nan _ hi p q h k = elim p [ ]
+between (inf _) _ hi p q h k = elim p [ ]
+between (fin s m e) nan nan p q h k = elim q [ ]
+between (fin s m e) nan (inf _) p q h k = elim q [ ]
+between (fin s m e) (inf false) nan p q h k = elim q [ ]
+between (fin s m e) (inf false) (inf _) p q h k = elim q [ ]
+between (fin s m e) (inf true) nan p q h k = elim q [ ]
+between (fin s m e) (inf true) (inf _) p q h k = elim q [ ]
+between (fin s m e) (fin u l g) nan p q h k = elim q [ ]
+between (fin s m e) (fin u l g) (inf _) p q h k = elim q [ ]

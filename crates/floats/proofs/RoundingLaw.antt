@@ -4,7 +4,7 @@ use mathlib.Core.Logic.{◌⊎◌, inl, inr}
 use Prim.Native.Nat.{ℕ, zero, suc, ◌+◌, ◌-◌, ◌*◌, ◌/◌, ◌%◌, ◌^◌, ◌≤◌, ◌<◌, zero-le, compare, Ordering}
 use native.Mathlib.Nat.{le_of_eq, le_of_lt, le_trans, le_refl, lt_of_lt_of_le, lt_of_le_of_lt, lt_irrefl, mul_comm, mul_assoc, mul_left_comm, mul_right_comm}
 use native.Mathlib.Nat.{mul-one, mul-pos, mul-sub, mul-le-mul_right, mul-mod_left, mod-lt, div-add-mod', div-div-eq-div-mul, le-div_iff_mul-le, suc-mul}
-use native.Mathlib.Nat.{pow-suc, eq-or-lt_of_le, mul-lt-mul_of_pos_right, eq_of_mul_eq_mul_right}
+use native.Mathlib.Nat.{pow-suc, eq-or-lt_of_le, mul-lt-mul_of_pos_right, eq_of_mul-eq-mul_right}
 use native.Mathlib.Omega.{arith}
 use mathlib.Core.Bool.{Bool, true, false, not}
 use lib.Dec.{T, is_le, compare_is_eq, eqb, eqb→eq, eqb_refl, leb→le, nleb→lt}
@@ -179,7 +179,7 @@ module _ (f : Format) (A c : ℕ) (C : 0 < c) where
       × ((m : ℕ) → Datum (parameters f) m → gap A (v * 2 ^ k * c) ≡ gap A (m * c) → (v * 2 ^ k ≡ m) ⊎ (v % 2 ≡ 0))
 
   same : (v m : ℕ) → v * u ≡ m * c → v * 2 ^ k ≡ m
-  same v m e = eq_of_mul_eq_mul_right c C (v * 2 ^ k) m (over_c v ∙ e)
+  same v m e = eq_of_mul-eq-mul_right c C (v * 2 ^ k) m (over_c v ∙ e)
 
   down : A % u * 2 ≤ u → (A % u * 2 < u) ⊎ (w % 2 ≡ 0) → Good w
   down h t = (

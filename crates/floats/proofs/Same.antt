@@ -2,7 +2,7 @@
 use mathlib.Core.Path.{◌≡◌, refl, sym, ap, ◌∙◌}
 use mathlib.Core.Logic.{◌≢◌}
 use Prim.Native.Nat.{ℕ, zero, suc, ◌+◌, ◌*◌, ◌%◌, ◌^◌, ◌<◌}
-use native.Mathlib.Nat.{one-mul, pow-suc, pow-succ', zero-lt-suc, mul_assoc, mul_left_comm, mul-one, mul_right_comm, eq_of_mul_eq_mul_right, mul-pos}
+use native.Mathlib.Nat.{one-mul, pow-suc, pow-succ', zero-lt-suc, mul_assoc, mul_left_comm, mul-one, mul_right_comm, eq_of_mul-eq-mul_right, mul-pos}
 use native.Mathlib.Omega.{arith}
 use mathlib.Core.Bool.{Bool, true, false, ◌&&◌, ◌||◌, beq}
 use lib.IntN.{ℤ, pos, negsuc}
@@ -22,7 +22,7 @@ odd_pow m n zero zero o p h = (sym (mul-one m) ∙ h ∙ mul-one n, refl)
 odd_pow m n zero (suc b) o p h = absurd (even_odd m (n * 2 ^ b) o (sym (mul-one m) ∙ h ∙ ap (λ (x : ℕ). n * x) (pow-succ' 2 b) ∙ mul_left_comm n 2 (2 ^ b)))
 odd_pow m n (suc a) zero o p h = absurd (even_odd n (m * 2 ^ a) p (sym (mul-one n) ∙ sym h ∙ ap (λ (x : ℕ). m * x) (pow-succ' 2 a) ∙ mul_left_comm m 2 (2 ^ a)))
 odd_pow m n (suc a) (suc b) o p h =
-    let r = odd_pow m n a b o p (eq_of_mul_eq_mul_right 2 (lit≤ tt) (m * 2 ^ a) (n * 2 ^ b)
+    let r = odd_pow m n a b o p (eq_of_mul-eq-mul_right 2 (lit≤ tt) (m * 2 ^ a) (n * 2 ^ b)
     (mul_assoc m (2 ^ a) 2 ∙ ap (λ (x : ℕ). m * x) (sym (pow-suc 2 a)) ∙ h ∙ ap (λ (x : ℕ). n * x) (pow-suc 2 b) ∙ sym (mul_assoc n (2 ^ b) 2))) in
     (r.0, ap suc r.1)
 
@@ -92,7 +92,7 @@ value→same f s a c (fin t m e) (fin u n d) C p q h k = go m n p q cross
   where
     cross : m * up e * down d ≡ n * up d * down e
     cross =
-        eq_of_mul_eq_mul_right c C (m * up e * down d) (n * up d * down e)
+        eq_of_mul-eq-mul_right c C (m * up e * down d) (n * up d * down e)
         (mul_right_comm (m * up e) (down d) c ∙ ap (λ (z : ℕ). z * down d) h.1 ∙ mul_right_comm a (down e) (down d)
         ∙ ap (λ (z : ℕ). z * down e) (sym k.1) ∙ mul_right_comm (n * up d) c (down e))
 
@@ -104,3 +104,7 @@ value→same f s a c (fin t m e) (fin u n d) C p q h k = go m n p q cross
     go zero (suc n) p q r = absurd (above n (up d) (down e) (up_pos d) (down_pos e) (sym r ∙ zero_times (up e) (down d)))
     go (suc m) zero p q r = absurd (above m (up e) (down d) (up_pos e) (down_pos d) (r ∙ zero_times (up d) (down e)))
     go (suc m) (suc n) p q r = let o = one_way (suc m) (suc n) e d (is_odd f t m e p) (is_odd f u n d q) r in λ j. fin (sign j) (o.0 j) (o.1 j)
+value→same f s a c nan y C p q h k = elim h [ ]
+value→same f s a c (inf _) y C p q h k = elim h [ ]
+value→same f s a c (fin t m e) nan C p q h k = elim k [ ]
+value→same f s a c (fin t m e) (inf _) C p q h k = elim k [ ]

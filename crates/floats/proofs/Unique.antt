@@ -4,7 +4,7 @@ use mathlib.Core.Path.{◌≡◌, refl, sym, ap, ◌∙◌, subst, subst₂}
 use mathlib.Core.Logic.{◌⊎◌, inl, inr}
 use Prim.Native.Nat.{ℕ, zero, suc, ◌+◌, ◌-◌, ◌*◌, ◌%◌, ◌^◌, ◌≤◌, ◌<◌, zero-le}
 use native.Mathlib.Nat.{le_of_eq, le_trans, le_refl, le_antisymm, lt_of_le_of_lt, not-le_of_lt, mul_comm, mul_assoc, mul-one, mul-le-mul_right}
-use native.Mathlib.Nat.{mul-lt-mul_of_pos_right, eq_of_mul_eq_mul_right, eq-or-lt_of_le, pow-suc, pow-succ', mul-pos, zero-lt-suc}
+use native.Mathlib.Nat.{mul-lt-mul_of_pos_right, eq_of_mul-eq-mul_right, eq-or-lt_of_le, pow-suc, pow-succ', mul-pos, zero-lt-suc}
 use native.Mathlib.Omega.{arith}
 use mathlib.Core.Bool.{Bool, true, false, ◌&&◌}
 use lib.Dec.{T}
@@ -63,15 +63,15 @@ next_odd f n m e h e' =
     let p = e'.power in
     let k : suc C * 2 ^ q ≡ D * 2 ^ p = h ∙ e'.is in
     elim (lt_or_le q p) [
-      | inl l ↦ odd_even C (D * 2 ^ (p - suc q)) e.even (eq_of_mul_eq_mul_right (2 ^ q) (pow_pos q) (suc C) (D * 2 ^ (p - suc q) * 2) (k ∙ evens D p q l))
+      | inl l ↦ odd_even C (D * 2 ^ (p - suc q)) e.even (eq_of_mul-eq-mul_right (2 ^ q) (pow_pos q) (suc C) (D * 2 ^ (p - suc q) * 2) (k ∙ evens D p q l))
       | inr l ↦
           elim (eq-or-lt_of_le l) [
-            | inl z ↦ odd_even' C D e.even e'.even (eq_of_mul_eq_mul_right (2 ^ q) (pow_pos q) (suc C) D (k ∙ ap (λ (i : ℕ). D * 2 ^ i) z))
+            | inl z ↦ odd_even' C D e.even e'.even (eq_of_mul-eq-mul_right (2 ^ q) (pow_pos q) (suc C) D (k ∙ ap (λ (i : ℕ). D * 2 ^ i) z))
             | inr g ↦
                 elim e.full [
                   | inl w ↦
                       let t = 2 ^ (q - suc p) in
-                      let x : suc C * t * 2 ≡ D = eq_of_mul_eq_mul_right (2 ^ p) (pow_pos p) (suc C * t * 2) D (sym (evens (suc C) q p g) ∙ k) in
+                      let x : suc C * t * 2 ≡ D = eq_of_mul-eq-mul_right (2 ^ p) (pow_pos p) (suc C * t * 2) D (sym (evens (suc C) q p g) ∙ k) in
                       too_many (2 ^ prec f) (2 ^ (prec f - 1)) C t D (doubled f) w (sym (mul_assoc (suc C) t 2) ∙ x) (pow_pos (q - suc p)) e'.short
                   | inr z ↦ not-le_of_lt g (subst (λ (i : ℕ). i ≤ p) (sym z) zero-le)
                 ]

@@ -5,7 +5,7 @@ use borrow.Author.Count.{below_none, below_more}
 use Prim.Native.Nat.{ℕ, ◌+◌, ◌≤◌, ◌<◌}
 use native.Mathlib.Omega.{arith}
 use lib.ListN.{length, get_or, set, length-set}
-use lib.Seq.{get_or-set_same, get_or_set_other}
+use lib.Seq.{get_or-set_same, get_or-set_other}
 use Rattle.lists.specs.Lanes.{Lanes}
 use Rattle.lists.specs.Tabulate.{tabulate}
 use Rattle.lists.proofs.Tabulated.{tabulated}
@@ -25,7 +25,7 @@ module _ {A : Type 0} {z : A} {f : ℕ → A} {n l : ℕ} {r : List A} where
       record {
         upto = omega arith;
         long = length-set r i x ∙ p.long;
-        lanes = below_more (λ k. get_or (set r i x) k z ≡ f k) i (λ k q. get_or_set_other r i k x z (λ (s : k ≡ i). omega arith) ∙ p.lanes k q)
+        lanes = below_more (λ k. get_or (set r i x) k z ≡ f k) i (λ k q. get_or-set_other r i k x z (λ (s : k ≡ i). omega arith) ∙ p.lanes k q)
             (get_or-set_same r i x z (omega (arith, p.long)) ∙ e);
       }
 

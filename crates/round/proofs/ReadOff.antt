@@ -14,7 +14,7 @@ use lib.IntN.{ℤ, pos, negsuc}
 use lib.Ieee.{Float, nan, inf, fin, Format, binary32, binary64, up, down, size, nearest, units, round, to_bits, fits, add, sum, le, lt, eq, is_nan, of_bits}
 use lib.Ieee.Bits.{is_true}
 use Rattle.floats.specs.RampIndex.{floor_of, half_up}
-use lib.Ieee.Digits.{size_lt, size_le}
+use lib.Ieee.Digits.{size-lt, size-le}
 use lib.Ieee.Fits.{core, round_is, nearest-le, down_pos, and_l, and_r}
 use lib.Ieee.Exact.{HasValue, units_val}
 use lib.Ieee.Nearest.{closest, closest_same, nearest-ge, div_same}
@@ -53,7 +53,7 @@ between z a b = omega arith
 
 -- a number with 1102 binary digits
 size_is : (w : ℕ) → 2 ^ 1101 ≤ w → w < 2 ^ 1102 → size w ≡ 1102
-size_is w a b = between (size w) (pow_lt_back 1101 (size w) (lt_of_le_of_lt a (size_lt w))) (size_le w 1102 b)
+size_is w a b = between (size w) (pow_lt_back 1101 (size w) (lt_of_le_of_lt a (size-lt w))) (size-le w 1102 b)
 
 -- ---- the pattern of q * 2 ^ -25, for a q of 53 digits
 

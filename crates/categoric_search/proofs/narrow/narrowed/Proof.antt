@@ -4,7 +4,7 @@ use mathlib.Core.Path.{◌≡◌, sym, subst, ◌∙◌}
 use Prim.Native.Nat.{ℕ, ◌-◌, ◌<◌, ◌≤◌}
 use native.Mathlib.Omega.{arith}
 use lib.ListN.{get_or-replicate, get_or}
-use lib.Seq.{get_or_set_other}
+use lib.Seq.{get_or-set_other}
 use lib.IntN.{pos}
 use mir.Syntax.{w32, w64}
 use mir.Val.{SFits}
@@ -42,7 +42,7 @@ loop-again : tie.Need-loop-preserved invariant-loop decreases-loop
 loop-again c =
     let l = c.before.before in (
       filling_turn l.loop.invariant.0 (omega arith) (omega arith) (to_z-of_z w32 _ (cast-result c) ∙ to_z-of_z w64 _ (record { sfits = c.result.given })),
-      λ k h q. get_or_set_other l.loop.result l.loop.i k _ (pos 0) (λ (e : k ≡ l.loop.i). omega arith) ∙ l.loop.invariant.1 k (omega arith) q,
+      λ k h q. get_or-set_other l.loop.result l.loop.i k _ (pos 0) (λ (e : k ≡ l.loop.i). omega arith) ∙ l.loop.invariant.1 k (omega arith) q,
     )
 
 returns : tie.Need-returns invariant-loop decreases-loop
