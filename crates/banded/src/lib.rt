@@ -17,14 +17,14 @@ use refusal::{Answer, Refusal};
 
 // The first `count` bands. Builders leave one blank band in the places after them.
 #[repr(C)]
-#[derive(Drop)]
+#[derive(Clone, Copy)]
 pub struct Banded {
     pub bands: [LegendBand; 64],
     pub count: usize,
 }
 
 // A record that was asked for: the empty one beside a refusal.
-#[derive(Drop)]
+#[derive(Clone, Copy)]
 pub struct MadeBanded {
     pub answer: Answer,
     pub banded: Banded,

@@ -18,7 +18,7 @@ use banded_search::indices;
 use colormapper::{Exclusions, UnmappableColors};
 
 // What a banded legend is painted by, beside its bands.
-#[derive(Drop)]
+#[derive(Clone, Copy)]
 pub struct BandedPaint {
     pub count: usize,
     pub unmappable: UnmappableColors,

@@ -9,7 +9,7 @@ ghost use Rattle.banded_columns.specs.OuterColors.{first_color_or, last_color_or
 
 // A band: from its start up to, but not at, its end.
 #[repr(C)]
-#[derive(Drop)]
+#[derive(Clone, Copy)]
 pub struct LegendBand {
     pub start: f32,
     pub end: f32,

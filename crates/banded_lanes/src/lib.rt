@@ -17,7 +17,7 @@ use banded_columns::LegendBand;
 use colormapper::UnmappableColors;
 
 // A chunk after the bands: its colours so far, and whether each lane lies in some band.
-#[derive(Drop)]
+#[derive(Clone, Copy)]
 pub struct Scan {
     pub colors: [u32; 16],
     pub finished: bool,

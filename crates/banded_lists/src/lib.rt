@@ -11,7 +11,7 @@ use refusal::{Answer, Refusal};
 
 // One manual range, from its start up to its end.
 #[repr(C)]
-#[derive(Drop)]
+#[derive(Clone, Copy)]
 pub struct ValueRange {
     pub start: f32,
     pub end: f32,
@@ -19,7 +19,7 @@ pub struct ValueRange {
 
 // The first `count` ranges.
 #[repr(C)]
-#[derive(Drop)]
+#[derive(Clone, Copy)]
 pub struct ValueRanges {
     pub ranges: [ValueRange; 64],
     pub count: usize,

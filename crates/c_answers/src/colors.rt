@@ -10,7 +10,7 @@ use refusal::Answer;
 
 // A colour's word, 0 beside a refusal.
 #[repr(C)]
-#[derive(Drop)]
+#[derive(Clone, Copy)]
 pub struct LegendColor {
     pub answer: LegendAnswer,
     pub color: u32,
@@ -18,7 +18,7 @@ pub struct LegendColor {
 
 // A palette's colours: the first `count`, and 0 from there on.
 #[repr(C)]
-#[derive(Drop)]
+#[derive(Clone, Copy)]
 pub struct LegendPalette {
     pub answer: LegendAnswer,
     pub colors: [u32; 12],

@@ -6,7 +6,7 @@ use cast::Truncated;
 
 // A sample cut toward zero: `whole` is 1 where that is an i64, else 0 beside the key 0.
 #[repr(C)]
-#[derive(Drop)]
+#[derive(Clone, Copy)]
 pub struct LegendKey {
     pub key: i64,
     pub whole: u32,

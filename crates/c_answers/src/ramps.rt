@@ -8,7 +8,7 @@ use colormap::MadeRamp;
 
 // A ramp's 256 colours, all 0 beside a refusal.
 #[repr(C)]
-#[derive(Drop)]
+#[derive(Clone, Copy)]
 pub struct LegendRamp {
     pub answer: LegendAnswer,
     pub colors: [u32; 256],

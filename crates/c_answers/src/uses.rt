@@ -12,7 +12,7 @@ use refusal::Answer;
 
 // The whole range of a legend's values, 0 and 0 beside a refusal.
 #[repr(C)]
-#[derive(Drop)]
+#[derive(Clone, Copy)]
 pub struct LegendValueRange {
     pub answer: LegendAnswer,
     pub start: f32,
@@ -21,7 +21,7 @@ pub struct LegendValueRange {
 
 // A legend's 256 colours from its lowest to its highest value, all 0 beside a refusal.
 #[repr(C)]
-#[derive(Drop)]
+#[derive(Clone, Copy)]
 pub struct LegendColorList {
     pub answer: LegendAnswer,
     pub colors: [u32; 256],

@@ -15,7 +15,7 @@ use refusal::Answer;
 
 // The length of a card that was written, 0 beside a refusal.
 #[repr(C)]
-#[derive(Drop)]
+#[derive(Clone, Copy)]
 pub struct LegendWrittenCard {
     pub answer: LegendAnswer,
     pub length: usize,
@@ -23,7 +23,7 @@ pub struct LegendWrittenCard {
 
 // Where the title of a card is among its bytes.
 #[repr(C)]
-#[derive(Drop)]
+#[derive(Clone, Copy)]
 pub struct LegendTitlePart {
     pub offset: usize,
     pub length: usize,

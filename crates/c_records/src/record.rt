@@ -14,7 +14,7 @@ use refusal::Answer;
 
 // The kind is 0 for linear, 1 for banded, 2 for categoric; of the three records that of the kind alone counts.
 #[repr(C)]
-#[derive(Drop)]
+#[derive(Clone, Copy)]
 pub struct LegendRecord {
     pub kind: u32,
     pub settings: LegendSettings,
@@ -25,7 +25,7 @@ pub struct LegendRecord {
 
 // A legend that was asked for: the empty one beside a refusal.
 #[repr(C)]
-#[derive(Drop)]
+#[derive(Clone, Copy)]
 pub struct LegendMade {
     pub answer: LegendAnswer,
     pub legend: LegendRecord,

@@ -10,7 +10,7 @@ use legend_view::View;
 
 // What is neither an array nor the bands: those are passed beside it.
 #[repr(C)]
-#[derive(Drop)]
+#[derive(Clone, Copy)]
 pub struct LegendView {
     pub kind: u32,
     pub settings: LegendSettings,

@@ -6,7 +6,7 @@ use refusal::{Answer, Index};
 
 // A refusal's number, 0 where nothing is refused, and its index: `indexed` is 1 where the table of refusals names one.
 #[repr(C)]
-#[derive(Drop)]
+#[derive(Clone, Copy)]
 pub struct LegendAnswer {
     pub number: u32,
     pub indexed: u32,

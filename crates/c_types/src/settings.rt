@@ -6,7 +6,7 @@ use colormapper::MappingConfig;
 
 // The last three are flags, 0 or 1. The low colour counts where `has_low` is 1, the high colour where `has_high` is.
 #[repr(C)]
-#[derive(Drop)]
+#[derive(Clone, Copy)]
 pub struct LegendSettings {
     pub nodata_color: u32,
     pub low_color: u32,

@@ -10,7 +10,7 @@ use legend::Legend;
 use refusal::Answer;
 
 // What the writer answers: the card's length, 0 beside a refusal.
-#[derive(Drop)]
+#[derive(Clone, Copy)]
 pub struct WrittenCard {
     pub answer: Answer,
     pub length: usize,

@@ -20,14 +20,14 @@ pub fn i16_to_f32(x: i16) -> f32
 }
 
 // The sample value that stands for no data, where one is given: converted as a sample, so that it equals the samples it stands for.
-#[derive(Drop)]
+#[derive(Clone, Copy)]
 pub enum Nodata {
     Value(f32),
     Absent,
 }
 
 // A float cut toward zero, where that is an i64.
-#[derive(Drop)]
+#[derive(Clone, Copy)]
 pub enum Truncated {
     Whole(i64),
     Outside,

@@ -7,7 +7,7 @@ pub mod table;
 use colormapper::Exclusions;
 
 // What a categoric legend is painted by, beside its table or its keys.
-#[derive(Drop)]
+#[derive(Clone, Copy)]
 pub struct CategoricPaint {
     pub nodata: u32,
     pub exclusions: Exclusions,

@@ -16,7 +16,7 @@ use refusal::{Answer, Refusal};
 
 // The first `count` keys, ascending, with their colours, and the table's first `lookup_count` words. Other places are 0.
 #[repr(C)]
-#[derive(Drop)]
+#[derive(Clone, Copy)]
 pub struct CategoricNumeric {
     pub keys: [i64; 256],
     pub colors: [u32; 256],
@@ -26,7 +26,7 @@ pub struct CategoricNumeric {
 }
 
 // A record that was asked for: the empty one beside a refusal.
-#[derive(Drop)]
+#[derive(Clone, Copy)]
 pub struct MadeCategoric {
     pub answer: Answer,
     pub categoric: CategoricNumeric,

@@ -7,7 +7,7 @@ ghost use Rattle.color.specs.Hex.{hex_digit, hex_pair, pair_at, hex_form, of_pai
 
 use refusal::Refusal;
 
-#[derive(Drop)]
+#[derive(Clone, Copy)]
 pub struct Color {
     pub r: u8,
     pub g: u8,
@@ -16,14 +16,14 @@ pub struct Color {
 }
 
 // What hex text is read as.
-#[derive(Drop)]
+#[derive(Clone, Copy)]
 pub enum HexColor {
     Made(Color),
     Refused(Refusal),
 }
 
 // What a hex digit, or a pair of them, is read as.
-#[derive(Drop)]
+#[derive(Clone, Copy)]
 pub enum Hex {
     Value(u8),
     Nothing,

@@ -11,13 +11,13 @@ use color::Color;
 use refusal::{Answer, Refusal};
 
 // A ramp: exactly 256 colours.
-#[derive(Drop)]
+#[derive(Clone, Copy)]
 pub struct ProcessedColorMap {
     pub cmap: [u32; 256],
 }
 
 // A ramp that was asked for: the empty one, all TRANSPARENT, beside a refusal.
-#[derive(Drop)]
+#[derive(Clone, Copy)]
 pub struct MadeRamp {
     pub answer: Answer,
     pub ramp: ProcessedColorMap,

@@ -13,14 +13,14 @@ use cast::Nodata;
 use color::Color;
 
 // A colour that may be absent.
-#[derive(Drop)]
+#[derive(Clone, Copy)]
 pub enum OptionalColor {
     Given(u32),
     Absent,
 }
 
 // The settings of a legend.
-#[derive(Drop)]
+#[derive(Clone, Copy)]
 pub struct MappingConfig {
     pub nodata_color: u32,
     pub out_of_range_low_color: OptionalColor,
@@ -29,7 +29,7 @@ pub struct MappingConfig {
 }
 
 // The colours of unmappable samples and of samples out of range.
-#[derive(Drop)]
+#[derive(Clone, Copy)]
 pub struct UnmappableColors {
     pub nodata: u32,
     pub low: u32,
@@ -37,7 +37,7 @@ pub struct UnmappableColors {
 }
 
 // The two values whose samples are unmappable, NaN where there is none: nothing equals it.
-#[derive(Drop)]
+#[derive(Clone, Copy)]
 pub struct Exclusions {
     pub nodata: f32,
     pub zero: f32,

@@ -10,7 +10,7 @@ use colormapper::MappingConfig;
 use linear::Linear;
 use refusal::Answer;
 
-#[derive(Drop)]
+#[derive(Clone, Copy)]
 pub enum LegendKind {
     Linear,
     Banded,
@@ -44,7 +44,7 @@ impl LegendKind {
 }
 
 // A kind beside the three records, of which that of the kind alone counts: an enum cannot hold arrays.
-#[derive(Drop)]
+#[derive(Clone, Copy)]
 pub struct Legend {
     pub kind: LegendKind,
     pub linear: Linear,

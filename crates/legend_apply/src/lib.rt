@@ -14,7 +14,7 @@ use legend::Legend;
 use refusal::Answer;
 
 // 256 colours from the lowest to the highest value, TRANSPARENT throughout beside a refusal.
-#[derive(Drop)]
+#[derive(Clone, Copy)]
 pub struct ColorList {
     pub answer: Answer,
     pub colors: [u32; 256],

@@ -19,7 +19,7 @@ use linear::{Linear, MadeLinear};
 use refusal::Answer;
 
 // A legend that was asked for: the empty one beside a refusal.
-#[derive(Drop)]
+#[derive(Clone, Copy)]
 pub struct MadeLegend {
     pub answer: Answer,
     pub legend: Legend,

@@ -13,7 +13,7 @@ use legend_view::View;
 use refusal::{Answer, Refusal};
 
 // The colour of a sample.
-#[derive(Drop)]
+#[derive(Clone, Copy)]
 pub enum PixelColor {
     Color(u32),
     Refused(Refusal),

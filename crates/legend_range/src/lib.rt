@@ -14,7 +14,7 @@ use legend::{Legend, LegendKind};
 use refusal::{Answer, Refusal};
 
 // The whole range of a legend's values.
-#[derive(Drop)]
+#[derive(Clone, Copy)]
 pub enum TotalRange {
     Range(ValueRange),
     Refused(Refusal),

@@ -11,7 +11,7 @@ use legend::{Legend, LegendKind};
 use refusal::Answer;
 
 // A legend without its ramp, its keys with their colours, and its table. The bands stay: an array of structs cannot be lent.
-#[derive(Drop)]
+#[derive(Clone, Copy)]
 pub struct View {
     pub kind: LegendKind,
     pub start: f32,

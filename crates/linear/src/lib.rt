@@ -10,7 +10,7 @@ use refusal::{Answer, Refusal};
 
 // A range of values and the ramp that it is coloured by.
 #[repr(C)]
-#[derive(Drop)]
+#[derive(Clone, Copy)]
 pub struct Linear {
     pub start: f32,
     pub end: f32,
@@ -18,7 +18,7 @@ pub struct Linear {
 }
 
 // A linear record that was asked for: the empty one beside a refusal.
-#[derive(Drop)]
+#[derive(Clone, Copy)]
 pub struct MadeLinear {
     pub answer: Answer,
     pub linear: Linear,

@@ -12,7 +12,7 @@ ghost use Rattle.linear_paint.specs.forms.Samples.{plain_sample, lane_sample, la
 use colormapper::{Exclusions, UnmappableColors};
 
 // What a linear legend is painted by, beside its ramp.
-#[derive(Drop)]
+#[derive(Clone, Copy)]
 pub struct LinearPaint {
     pub start: f32,
     pub end: f32,

@@ -11,7 +11,7 @@ ghost use Rattle.lookup.specs.forms.UnitOrZero.{unit_or_zero};
 use color::Color;
 
 // What a fraction is looked up as.
-#[derive(Drop)]
+#[derive(Clone, Copy)]
 pub enum Entry {
     At(usize),
     Outside,

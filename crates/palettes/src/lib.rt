@@ -12,7 +12,7 @@ use refusal::{Answer, Refusal};
 use table::{COLORS, LENGTHS, OFFSETS};
 
 // A palette's colours: the first `count`, and 0 from there on. No colours beside a refusal.
-#[derive(Drop)]
+#[derive(Clone, Copy)]
 pub struct Palette {
     pub answer: Answer,
     pub colors: [u32; 12],

@@ -5,7 +5,7 @@ ghost use Rattle.std.specs.Prelude.{◌≡◌};
 ghost use Rattle.refusal.specs.Table.{number_of, index_of, answer_number, answer_index};
 
 // One case for each number of the table, in its order, and one for each refusal of the interface for C. An index is held where the table names one.
-#[derive(Drop)]
+#[derive(Clone, Copy)]
 pub enum Refusal {
     EmptyText,
     NotHexColor,
@@ -32,14 +32,14 @@ pub enum Refusal {
 }
 
 // The index that a refusal carries.
-#[derive(Drop)]
+#[derive(Clone, Copy)]
 pub enum Index {
     At(usize),
     Absent,
 }
 
 // What a call answers whose result stands beside it or in a lent buffer.
-#[derive(Drop)]
+#[derive(Clone, Copy)]
 pub enum Answer {
     Done,
     Refused(Refusal),

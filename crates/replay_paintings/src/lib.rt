@@ -8,14 +8,14 @@ mod raster_u8;
 mod sample;
 
 // A painting in lanes: the words, and scratch after it, which held 5C5C5C5C in each word.
-#[derive(Drop)]
+#[derive(Clone, Copy)]
 pub struct LaneWords {
     pub words: [u32; 40],
     pub scratch: [u32; 16],
 }
 
 // Every painting of some samples.
-#[derive(Drop)]
+#[derive(Clone, Copy)]
 pub struct Paintings {
     pub values: [u32; 40],
     pub plain: [u32; 40],

@@ -1,7 +1,7 @@
 // The two fields of samples, 256 wide and 160 high: temperature with a patch of no data, and rain with dry gaps.
 use cast::Nodata;
 
-#[derive(Drop)]
+#[derive(Clone, Copy)]
 pub enum Field {
     Temperature,
     Rain,

@@ -6,7 +6,7 @@ use crate::{field, png, say, scale};
 use legend::Legend;
 
 // The picture so far, and whether every painting so far had the same words.
-#[derive(Drop)]
+#[derive(Clone, Copy)]
 pub struct Drawn {
     pub picture: Picture,
     pub agree: bool,

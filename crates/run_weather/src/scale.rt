@@ -2,7 +2,7 @@
 ghost use Rattle.std.specs.Prelude.{◌≤◌};
 
 // The numbers from one end of a key to the other: 0, 5, 10, .. `steps` steps, each less `below`. None has three digits.
-#[derive(Drop)]
+#[derive(Clone, Copy)]
 pub struct Scale {
     pub below: u8,
     pub steps: u8,

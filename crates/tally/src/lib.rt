@@ -8,7 +8,7 @@ ghost use Rattle.tally.specs.Counts.{sum, has_room};
 ghost use Rattle.tally.specs.forms.Packed.{weight_sum, digits_added, spread};
 
 // One count for each rule.
-#[derive(Drop)]
+#[derive(Clone, Copy)]
 pub struct Tally {
     pub counts: [u64; 12],
 }
