@@ -36,14 +36,14 @@ pub float_to_bits-bits : goal.float_to_bits-bits
 float_to_bits-bits c = number c.args.x c.if-x.false
 
 pub returns-then-exponent-lt127 : goal.returns-then-exponent-lt127
-returns-then-exponent-lt127 c = let s = c in sym (small s.args.x (held s) (omega (arith, field_is (to_bits binary32 s.args.x))))
+returns-then-exponent-lt127 c = let s = c in sym (small s.args.x (held c.before.before) (omega (arith, field_is (to_bits binary32 s.args.x))))
 
 pub returns-then-bits : goal.returns-then-bits
-returns-then-bits c = let s = c in sym (edge s.args.x (held s) c.if-bits.true)
+returns-then-bits c = let s = c in sym (edge s.args.x (held c.before.before.before.before) c.if-bits.true)
 
 pub returns-then-exponent-ge190 : goal.returns-then-exponent-ge190
 returns-then-exponent-ge190 c =
-    let s = c in sym (large s.args.x (held s) (omega (arith, field_is (to_bits binary32 s.args.x))) c.if-bits.false)
+    let s = c in sym (large s.args.x (held c.before.before.before.before) (omega (arith, field_is (to_bits binary32 s.args.x))) c.if-bits.false)
 
 pub magnitude-size-requires : goal.magnitude-size-requires
 magnitude-size-requires c = let s = c in omega (arith, field_is (to_bits binary32 s.args.x))
@@ -61,7 +61,7 @@ returns-then-bits-ge2147483648 c =
     let h = c.magnitude-size.ensures.1 in
     ap Whole (to_z-of_z w64 (pos 0 -ℤ to_z w64 u) (less_fits u h) ∙ nought_less u h ∙ ap (λ (n : ℕ). neg_ℤ (pos n)) c.magnitude-size.ensures.0
     ∙ ap (λ (t : Bool). signed t (whole_part b)) (sym (is_true (leb (2 ^ 31) b) (le→leb (2 ^ 31) b c.if-bits-ge2147483648.true))))
-    ∙ sym (middle x (held s) (omega (arith, field_is b)) (omega (arith, field_is b)))
+    ∙ sym (middle x (held c.before.before.before.before.before) (omega (arith, field_is b)) (omega (arith, field_is b)))
 
 pub returns : goal.returns
 returns c =
@@ -72,4 +72,4 @@ returns c =
     let u = c.magnitude-size.result in
     ap Whole (to_z_pos w64 u c.magnitude-size.ensures.1 ∙ ap pos c.magnitude-size.ensures.0 ∙ ap (λ (t : Bool). signed t (whole_part b))
     (sym (is_false (leb (2 ^ 31) b) (lt→nleb (2 ^ 31) b c.if-bits-ge2147483648.false))))
-    ∙ sym (middle x (held s) (omega (arith, field_is b)) (omega (arith, field_is b)))
+    ∙ sym (middle x (held c.before.before.before.before.before) (omega (arith, field_is b)) (omega (arith, field_is b)))

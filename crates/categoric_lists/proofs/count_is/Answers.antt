@@ -14,18 +14,18 @@ count-back : (s : Start) → to_z w64 (of_z w64 s.args.count) ≡ s.args.count
 count-back s = back s.args.count s.ranges.count.sfits
 
 from-0 : (c : Else-count-lt0) → below c.args.count ≡ 0
-from-0 c = not_negative c.args.count (sym (ap (λ z. lt_z z (pos 0)) (count-back c)) ∙ c.if-count-lt0.false)
+from-0 c = not_negative c.args.count (sym (ap (λ z. lt_z z (pos 0)) (count-back c.before)) ∙ c.if-count-lt0.false)
 
 pub returns-then-count-lt0 : goal.returns-then-count-lt0
-returns-then-count-lt0 c = negative-length c.args.count c.args.given (sym (ap (λ z. lt_z z (pos 0)) (count-back c)) ∙ c.if-count-lt0.true)
+returns-then-count-lt0 c = negative-length c.args.count c.args.given (sym (ap (λ z. lt_z z (pos 0)) (count-back c.before)) ∙ c.if-count-lt0.true)
 
 pub overflow_cast-result : goal.overflow_cast-result
 overflow_cast-result c =
     let s = c in (
-      subst (λ z. T (non_neg z)) (sym (count-back s)) (cast_may s.args.count (from-0 c)),
-      subst (λ z. Fits w64 (nat_abs z)) (sym (count-back s))
+      subst (λ z. T (non_neg z)) (sym (count-back c.before)) (cast_may s.args.count (from-0 c)),
+      subst (λ z. Fits w64 (nat_abs z)) (sym (count-back c.before))
           (record { fits = cast_fits s.args.count s.ranges.count.sfits (from-0 c) }),
     )
 
 pub returns : goal.returns
-returns c = let s = c in ap (λ z. eqb (nat_abs z) s.args.given) (count-back s) ∙ cast-length s.args.count s.args.given (from-0 c)
+returns c = let s = c in ap (λ z. eqb (nat_abs z) s.args.given) (count-back c.before) ∙ cast-length s.args.count s.args.given (from-0 c)

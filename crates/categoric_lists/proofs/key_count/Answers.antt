@@ -18,7 +18,7 @@ count-is c =
     c.range_count-count.ensures ∙ back₂ range_count s.args.start s.args.end s.ranges.start.sfits s.ranges.end.sfits
 
 from-0 : (c : Else-count-lt0) → below c.range_count-count.result ≡ 0
-from-0 c = let n = c.range_count-count in not_negative n.result (sym (ap (λ z. lt_z z (pos 0)) (back n.result n.type-inv)) ∙ c.if-count-lt0.false)
+from-0 c = let n = c.range_count-count in not_negative n.result (sym (ap (λ z. lt_z z (pos 0)) (back n.result n.type_inv)) ∙ c.if-count-lt0.false)
 
 pub range_count-count-requires : goal.range_count-count-requires
 range_count-count-requires c = back₂ too_wide c.args.start c.args.end c.ranges.start.sfits c.ranges.end.sfits ∙ c.requires
@@ -26,17 +26,17 @@ range_count-count-requires c = back₂ too_wide c.args.start c.args.end c.ranges
 pub returns-then-count-lt0 : goal.returns-then-count-lt0
 returns-then-count-lt0 c =
     let n = c.range_count-count in
-    negative-none n.result (sym (ap (λ z. lt_z z (pos 0)) (back n.result n.type-inv)) ∙ c.if-count-lt0.true) ∙ ap whole (count-is c)
+    negative-none n.result (sym (ap (λ z. lt_z z (pos 0)) (back n.result n.type_inv)) ∙ c.if-count-lt0.true) ∙ ap whole (count-is c.before)
 
 pub overflow_cast-result : goal.overflow_cast-result
 overflow_cast-result c =
     let n = c.range_count-count in (
-      subst (λ z. T (non_neg z)) (sym (back n.result n.type-inv)) (cast_may n.result (from-0 c)),
+      subst (λ z. T (non_neg z)) (sym (back n.result n.type_inv)) (cast_may n.result (from-0 c)),
       subst (λ z. Fits w64 (nat_abs z))
-          (sym (back n.result n.type-inv)) (record { fits = cast_fits n.result n.type-inv (from-0 c) }),
+          (sym (back n.result n.type_inv)) (record { fits = cast_fits n.result n.type_inv (from-0 c) }),
     )
 
 pub returns : goal.returns
 returns c =
     let n = c.range_count-count in
-    ap nat_abs (back n.result n.type-inv) ∙ cast_is n.result (from-0 c) ∙ ap whole (count-is c)
+    ap nat_abs (back n.result n.type_inv) ∙ cast_is n.result (from-0 c) ∙ ap whole (count-is c.before)
