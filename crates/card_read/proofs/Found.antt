@@ -63,7 +63,7 @@ module _ (card : List ℕ) {rest : List ℕ} (is : rest ≡ after_title card) wh
         → entries_fit_in k count entries ≡ well_formed card
     by_entries {k} {count} {entries} e f =
         ap (λ (x : LegendKind). entries_fit_in x count entries) f.kind-is
-        ∙ ap₂ (entries_fit_in (kind_numbered (number_at 5 1 card))) f.count-is f.entries-are ∙ sym (tested e)
+        ∙ ap₂ (entries_fit_in (kind_numbered (number_at 5 1 card))) f.count-is f.entries_are ∙ sym (tested e)
 
   -- ---- the legend
   pub by_legend : {k : LegendKind} {count : ℕ} {entries : List ℕ} {config : MappingConfig} → config ≡ settings_at rest → Found card k count entries
@@ -72,4 +72,4 @@ module _ (card : List ℕ) {rest : List ℕ} (is : rest ≡ after_title card) wh
   by_legend {k} {count} {entries} {config} e f =
       ap (legend_from k count entries) (e ∙ ap settings_at is)
       ∙ ap (λ (x : LegendKind). legend_from x count entries (settings_at (after_title card))) f.kind-is
-      ∙ ap₂ (λ (n : ℕ) (es : List ℕ). legend_from (kind_numbered (number_at 5 1 card)) n es (settings_at (after_title card))) f.count-is f.entries-are
+      ∙ ap₂ (λ (n : ℕ) (es : List ℕ). legend_from (kind_numbered (number_at 5 1 card)) n es (settings_at (after_title card))) f.count-is f.entries_are

@@ -148,7 +148,7 @@ module _ {A B : Type 0} (f : A → B) where
 
 -- the keys that are counted
 pub counted : {cs : List Category} {keys : List ℤ} {colors : List ℕ} {count : ℕ} → HoldsCategories cs keys colors count → take count keys ≡ keys_of cs
-counted {cs} {keys} {colors} {count} s = ap₂ take (s.count-is ∙ sym (length-map cs (λ c. c.key))) s.keys-are ∙ take-padded (pos 0) 256 (keys_of cs)
+counted {cs} {keys} {colors} {count} s = ap₂ take (s.count-is ∙ sym (length-map cs (λ c. c.key))) s.keys_are ∙ take-padded (pos 0) 256 (keys_of cs)
 
 module _ (key : ℤ) (color p : ℕ) {cs : List Category} {keys : List ℤ} {colors : List ℕ} {count : ℕ} (s : HoldsCategories cs keys colors count)
     (at : p ≡ insertion_index key (take count keys)) where
@@ -175,11 +175,11 @@ module _ (key : ℤ) (color p : ℕ) {cs : List Category} {keys : List ℤ} {col
       let up : p ≤ count = omega (arith, place_≤ key (keys_of cs), place_at, many_keys, s.count-is) in
       record {
         keys_are =
-            k ∙ ap (λ a. set (shifted_up p count a) p key) s.keys-are ∙ roomed (pos 0) 256 p count (keys_of cs) key (omega (arith, many_keys, s.count-is)) up
+            k ∙ ap (λ a. set (shifted_up p count a) p key) s.keys_are ∙ roomed (pos 0) 256 p count (keys_of cs) key (omega (arith, many_keys, s.count-is)) up
             h
             ∙ sym (ap (λ l. padded (pos 0) 256 (keys_of l)) e ∙ ap (padded (pos 0) 256) (map-between (λ c. c.key) p p cs (category key color)));
         colors_are =
-            l ∙ ap (λ a. set (shifted_up p count a) p color) s.colors-are ∙ roomed 0 256 p count (colors_of cs) color (omega (arith, many_colors, s.count-is))
+            l ∙ ap (λ a. set (shifted_up p count a) p color) s.colors_are ∙ roomed 0 256 p count (colors_of cs) color (omega (arith, many_colors, s.count-is))
             up h
             ∙ sym (ap (λ l. padded 0 256 (colors_of l)) e ∙ ap (padded 0 256) (map-between (λ c. c.color) p p cs (category key color)));
         count-is = omega (
@@ -202,10 +202,10 @@ module _ (key : ℤ) (color p : ℕ) {cs : List Category} {keys : List ℤ} {col
       (ap (lt_z key) (key_at h) ∙ not-true (lt_z key (get_or keys p (pos 0))) (sym (le_is (get_or keys p (pos 0)) key) ∙ g)) in
       record {
         keys_are =
-            k ∙ ap (λ a. set a p key) s.keys-are ∙ replaced (pos 0) 256 p (keys_of cs) key (omega (arith, many_keys, s.count-is))
+            k ∙ ap (λ a. set a p key) s.keys_are ∙ replaced (pos 0) 256 p (keys_of cs) key (omega (arith, many_keys, s.count-is))
             ∙ sym (ap (λ l. padded (pos 0) 256 (keys_of l)) e ∙ ap (padded (pos 0) 256) (map-between (λ c. c.key) p (suc p) cs (category key color)));
         colors_are =
-            l ∙ ap (λ a. set a p color) s.colors-are ∙ replaced 0 256 p (colors_of cs) color (omega (arith, many_colors, s.count-is))
+            l ∙ ap (λ a. set a p color) s.colors_are ∙ replaced 0 256 p (colors_of cs) color (omega (arith, many_colors, s.count-is))
             ∙ sym (ap (λ l. padded 0 256 (colors_of l)) e ∙ ap (padded 0 256) (map-between (λ c. c.color) p (suc p) cs (category key color)));
         count-is = omega (
           arith,
@@ -254,7 +254,7 @@ holds_next {keys} {colors} {count} n i given words key h e s =
 -- the lengths of the arrays
 module _ {cs : List Category} {keys : List ℤ} {colors : List ℕ} {count : ℕ} (s : HoldsCategories cs keys colors count) (h : length cs ≤ 256) where
   pub keys-long : length keys ≡ 256
-  keys-long = ap length s.keys-are ∙ length-padded (pos 0) 256 (keys_of cs) (omega (arith, length-map cs (λ c. c.key)))
+  keys-long = ap length s.keys_are ∙ length-padded (pos 0) 256 (keys_of cs) (omega (arith, length-map cs (λ c. c.key)))
 
   pub colors-long : length colors ≡ 256
-  colors-long = ap length s.colors-are ∙ length-padded 0 256 (colors_of cs) (omega (arith, length-map cs (λ c. c.color)))
+  colors-long = ap length s.colors_are ∙ length-padded 0 256 (colors_of cs) (omega (arith, length-map cs (λ c. c.color)))

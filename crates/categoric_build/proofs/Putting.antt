@@ -78,15 +78,15 @@ module _ {key : ℤ} {color count count' : ℕ} {keys keys' : List ℤ} {colors 
   over h t =
       let b : is_present key keys count ≡ true = it_stands key keys count refl h t in
       subst (HoldsCategories (inserted key color cs) keys' colors') (sym (put.count-is ∙ ap (λ (t : Bool). cond t count (count + 1)) b))
-      (holds-over key color at s refl h t (put.keys-are ∙ as_stored count key keys b refl ∙ over-is at count key keys)
-      (put.colors-are ∙ as_stored count color colors b refl ∙ over-is at count color colors))
+      (holds-over key color at s refl h t (put.keys_are ∙ as_stored count key keys b refl ∙ over-is at count key keys)
+      (put.colors_are ∙ as_stored count color colors b refl ∙ over-is at count color colors))
 
   new : (at < count → le_z (get_or keys at (pos 0)) key ≡ false) → HoldsCategories (inserted key color cs) keys' colors' count'
   new t =
       let b : is_present key keys count ≡ false = it_does_not key keys count refl t in
       subst (HoldsCategories (inserted key color cs) keys' colors') (sym (put.count-is ∙ ap (λ (t : Bool). cond t count (count + 1)) b))
-      (holds_new key color at s refl few t (put.keys-are ∙ as_stored count key keys b refl ∙ new_is at count key keys)
-      (put.colors-are ∙ as_stored count color colors b refl ∙ new_is at count color colors))
+      (holds_new key color at s refl few t (put.keys_are ∙ as_stored count key keys b refl ∙ new_is at count key keys)
+      (put.colors_are ∙ as_stored count color colors b refl ∙ new_is at count color colors))
 
   pub holds_put : HoldsCategories (inserted key color cs) keys' colors' count'
   holds_put = go (le_z (get_or keys at (pos 0)) key) refl

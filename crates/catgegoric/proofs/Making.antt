@@ -46,12 +46,12 @@ pub recorded : {cs : List Category} {keys : List ℤ} {colors : List ℕ} {count
 unfolding record_of
 recorded {cs} {keys} {colors} {count} s =
     let k : take count keys ≡ keys_of cs = counted s in
-    let l : take count colors ≡ colors_of cs = ap₂ take (s.count-is ∙ sym (length-map cs (λ c. c.color))) s.colors-are ∙ take-padded 0 256 (colors_of cs) in
+    let l : take count colors ≡ colors_of cs = ap₂ take (s.count-is ∙ sym (length-map cs (λ c. c.color))) s.colors_are ∙ take-padded 0 256 (colors_of cs) in
     ap₂ (λ (a : List ℤ) (b : List ℕ). record { keys = keys; colors = colors; count = count; lookup = padded 0 513 (table a b); lookup_count = table_size a }) k
     l
     ∙ ap₂ (λ (a : List ℤ) (b : List ℕ). record
-    { keys = a; colors = b; count = count; lookup = padded 0 513 (table (keys_of cs) (colors_of cs)); lookup_count = table_size (keys_of cs) }) s.keys-are
-    s.colors-are
+    { keys = a; colors = b; count = count; lookup = padded 0 513 (table (keys_of cs) (colors_of cs)); lookup_count = table_size (keys_of cs) }) s.keys_are
+    s.colors_are
     ∙ ap (λ (n : ℕ). record {
       keys = padded (pos 0) 256 (keys_of cs);
       colors = padded 0 256 (colors_of cs);

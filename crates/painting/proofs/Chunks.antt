@@ -97,7 +97,7 @@ module _ (L : ℕ) (chunk : List Float → List ℕ) (plain : Float → ℕ) (t 
       (λ (b : i < L).
       let x = in_first_chunk k xs h i b in
       let y = in_first_chunk k ys g i b in
-      x.0 ∙ law.by-sample (first k xs h) (first k ys g) (first_long k xs h) (first_long k ys g) i b (subst₂ t.Alike (sym x.1) (sym y.1) a)
+      x.0 ∙ law.by_sample (first k xs h) (first k ys g) (first_long k xs h) (first_long k ys g) i b (subst₂ t.Alike (sym x.1) (sym y.1) a)
       ∙ sym y.0)
       (λ (b : L ≤ i).
       let x = in_later_chunk k xs h i b in
@@ -125,7 +125,7 @@ module _ (p : Painter) (L : ℕ) (t : Terms) (law : PainterLaw p L t) where
   same_at : (b : Bool) → (b ≡ true → ChunkLaw L p.chunk p.plain t) → (xs : List Float) (i : ℕ) → i < length xs
       → (get_or (in_lanes_lem b xs) i 0 ≡ p.plain (get_or xs i nan)) ⊎ ((i < full L (length xs)) × t.RoundingException (get_or xs i nan))
   unfolding lane_painted
-  same_at true h xs i l = same-chunked L p.chunk p.plain t (h refl) law.plain-by-sample (length xs / L) xs (div-mul-le_self (length xs) L) i l
+  same_at true h xs i l = same-chunked L p.chunk p.plain t (h refl) law.plain_by_sample (length xs / L) xs (div-mul-le_self (length xs) L) i l
   same_at false h xs i l = inl (sym (get_or-map_in p.plain xs i nan 0 l))
 
   differs_at : (b : Bool) → (b ≡ true → ChunkLaw L p.chunk p.plain t) → b ≡ true → (xs : List Float) (i : ℕ) → i < full L (length xs)
@@ -133,7 +133,7 @@ module _ (p : Painter) (L : ℕ) (t : Terms) (law : PainterLaw p L t) where
       → (get_or (in_lanes_lem b xs) i 0 ≡ t.lane-color) × (p.plain (get_or xs i nan) ≡ t.plain-color)
   unfolding lane_painted
   differs_at true h e xs i l o =
-      differs-chunked L p.chunk p.plain t (h refl) law.plain-by-sample (length xs / L) xs (div-mul-le_self (length xs) L) i l o
+      differs-chunked L p.chunk p.plain t (h refl) law.plain_by_sample (length xs / L) xs (div-mul-le_self (length xs) L) i l o
   differs_at false h e xs i l o = absurd (true≢false (sym e))
 
   alone_at : (b : Bool) → (b ≡ true → ChunkLaw L p.chunk p.plain t) → (xs ys : List Float) → length xs ≡ length ys → (i : ℕ) → i < length xs
@@ -141,11 +141,11 @@ module _ (p : Painter) (L : ℕ) (t : Terms) (law : PainterLaw p L t) where
       → get_or (in_lanes_lem b xs) i 0 ≡ get_or (in_lanes_lem b ys) i 0
   unfolding lane_painted
   alone_at true h xs ys e i l a =
-      alone-chunked L p.chunk p.plain t (h refl) law.plain-by-sample (length xs / L) xs ys (div-mul-le_self (length xs) L)
+      alone-chunked L p.chunk p.plain t (h refl) law.plain_by_sample (length xs / L) xs ys (div-mul-le_self (length xs) L)
       (subst (λ (n : ℕ). n / L * L ≤ length ys) (sym e) (div-mul-le_self (length ys) L)) i l (omega arith) a
       ∙ ap (λ (n : ℕ). get_or (chunked (n / L) L p.chunk p.plain ys) i 0) e
   alone_at false h xs ys e i l a =
-      sym (get_or-map_in p.plain xs i nan 0 l) ∙ law.plain-by-sample (get_or xs i nan) (get_or ys i nan) a ∙ get_or-map_in p.plain ys i nan 0 (omega arith)
+      sym (get_or-map_in p.plain xs i nan 0 l) ∙ law.plain_by_sample (get_or xs i nan) (get_or ys i nan) a ∙ get_or-map_in p.plain ys i nan 0 (omega arith)
 
   -- ---- of any two calls that keep their contracts and are not refused, whatever output and scratch held before
   pub pixel_same : {xs : List Float} {o o' q q' s s' : List ℕ} → PlainPainting p xs o Done o' → LanePainting p L xs q s Done q' s' → (i : ℕ) → i < length xs
@@ -155,7 +155,7 @@ module _ (p : Painter) (L : ℕ) (t : Terms) (law : PainterLaw p L t) where
   pub pixel_differs : {xs : List Float} {o o' q q' s s' : List ℕ} → PlainPainting p xs o Done o' → LanePainting p L xs q s Done q' s'
       → (i : ℕ) → i < full L (length xs) → t.RoundingException (get_or xs i nan) → (get_or q' i 0 ≡ t.lane-color) × (get_or o' i 0 ≡ t.plain-color)
   pixel_differs {xs} P Q i l o =
-      let d = differs_at p.simd law.chunks (law.exception-in-lanes (get_or xs i nan) o) xs i l o in
+      let d = differs_at p.simd law.chunks (law.exception-in_lanes (get_or xs i nan) o) xs i l o in
       (lane_at_lem Q i ∙ d.0, plain_at P i (lt_of_lt_of_le l (div-mul-le_self (length xs) L)) ∙ d.1)
 
   -- the lane paintings of two rasters of one length

@@ -14,7 +14,7 @@ unfolding two_digits
 returns-in_default c =
     let d = c
     in sym
-    (digit-pair _ _ d.if1.left (sym c.enum_told-1.given.1 ∙ d.hex-digit2.ensures) refl)
+    (digit-pair _ _ d.if-high-eq43.false (sym c.in_default.is ∙ d.hex_digit-2.ensures) refl)
 
 pub returns-in_default-hex_digit : goal.returns-in_default-hex_digit
 unfolding two_digits
@@ -22,22 +22,22 @@ returns-in_default-hex_digit c =
     let d = c
     in let h = d
     in sym
-    (digit-pair _ _ h.if1.left (sym h.h.given.1 ∙ h.hex-digit2.ensures)
-    (sym c.enum_told-in_default-hex_digit-1.given.1 ∙ d.hex-digit3.ensures))
+    (digit-pair _ _ h.if-high-eq43.false (sym h.in-Value.is ∙ h.hex_digit-2.ensures)
+    (sym c.in_default-hex_digit.is ∙ d.hex_digit-3.ensures))
 
 pub overflow_mul-result : goal.overflow_mul-result
 overflow_mul-result c =
     let s4 = c in
     let s5 = s4 in
     let h = s5
-    in omega (arith, below_16 _ (sym h.h.given.1 ∙ h.hex-digit2.ensures))
+    in omega (arith, below_16 _ (sym h.in-Value.is ∙ h.hex_digit-2.ensures))
 
 pub overflow_add-result : goal.overflow_add-result
 overflow_add-result c =
     let l = c
     in let h = l
-    in let low : l.l.given.0.0 < 16 = below_16 _ (sym l.l.given.1 ∙ l.hex-digit3.ensures)
-    in omega (arith, below_16 _ (sym h.h.given.1 ∙ h.hex-digit2.ensures))
+    in let low : l.in-Value-hex_digit.l < 16 = below_16 _ (sym l.in-Value-hex_digit.is ∙ l.hex_digit-3.ensures)
+    in omega (arith, below_16 _ (sym h.in-Value.is ∙ h.hex_digit-2.ensures))
 
 pub returns : goal.returns
 unfolding two_digits
@@ -45,5 +45,5 @@ returns c =
     let l = c
     in let h = l
     in sym
-    (digit-pair _ _ h.if1.left (sym h.h.given.1 ∙ h.hex-digit2.ensures)
-    (sym l.l.given.1 ∙ l.hex-digit3.ensures))
+    (digit-pair _ _ h.if-high-eq43.false (sym h.in-Value.is ∙ h.hex_digit-2.ensures)
+    (sym l.in-Value-hex_digit.is ∙ l.hex_digit-3.ensures))

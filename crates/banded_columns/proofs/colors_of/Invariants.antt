@@ -1,0 +1,11 @@
+use Prim.Native.Nat.{◌-◌}
+use lib.ListN.{get_or}
+use Rattle.lists.proofs.Filling.{Filling}
+use Rattle.banded_columns.proofs.Past.{no_band}
+use Rattle.banded_columns.proofs.colors_of.Given as goal
+
+abbrev pub invariant-loop-i : goal.invariant-loop-i
+invariant-loop-i l = Filling 0 (λ k. (get_or l.bands k no_band).color) 64 64 l.i l.colors
+
+abbrev pub decreases-loop-i : goal.decreases-loop-i
+decreases-loop-i l = 64 - l.i

@@ -1,0 +1,16 @@
+-- `nearest` meets its contract. Assumes nothing.
+use lib.Ieee.{binary64, of_bits}
+use Rattle.round.proofs.NotNan.{add_num, above_num, widens}
+use Rattle.round.proofs.ReadOff.{half_is}
+use Rattle.round.proofs.nearest.Goals as goal
+
+pub float_to_float-y : goal.float_to_float-y
+unfolding of_bits
+float_to_float-y c = widens c.args.p c.row_known-1.given (above_num _ _ _ c.args.p c.requires.fact_1)
+
+pub float_to_bits-result : goal.float_to_bits-result
+unfolding of_bits
+float_to_bits-result c = add_num binary64 c.args.p _ _ _ (above_num _ _ _ c.args.p c.requires.fact_1)
+
+pub returns : goal.returns
+returns c = half_is c.args.p c.row_known-1.given c.requires.fact_1 c.requires.fact_2
