@@ -9,8 +9,8 @@ ghost use Rattle.floats.specs.RampIndex.{floor_of, half_up};
 
 // The whole part of p, from 0 to below 1024. A leaf of the lookups, which hand it nothing else.
 pub fn floor(p: f32) -> usize
-    requires fact_1 { T (le (of_bits binary32 0) p) }
-    requires fact_2 { T (lt p (of_bits binary32 0x4480_0000)) }
+    requires from_zero { T (le (of_bits binary32 0) p) }
+    requires below_1024 { T (lt p (of_bits binary32 0x4480_0000)) }
     ensures { result ≡ floor_of p }
 {
     let y = (p as f64) + 134217728.0;
@@ -19,8 +19,8 @@ pub fn floor(p: f32) -> usize
 
 // The whole number nearest to p, halves up, for p from 0 to 255. A leaf of the lookups, which hand it nothing else.
 pub fn nearest(p: f32) -> usize
-    requires fact_1 { T (le (of_bits binary32 0) p) }
-    requires fact_2 { T (le p (of_bits binary32 0x437F_0000)) }
+    requires from_zero { T (le (of_bits binary32 0) p) }
+    requires up_to_255 { T (le p (of_bits binary32 0x437F_0000)) }
     ensures { result ≡ half_up p }
 {
     let y = (p as f64) + 134217728.5;

@@ -8,7 +8,7 @@ use Rattle.lists.proofs.Padding.{Storing}
 use Rattle.categoric_lists.proofs.range_keys.Given as goal
 
 abbrev pub invariant-loop-i : goal.invariant-loop-i
-invariant-loop-i l = (length l.keys ≡ 256) × Storing (pos 0) (λ k. to_z w64 l.start +ℤ pos k) 256 l.count l.i l.keys
+invariant-loop-i l = (length l.keys ≡ 256) × Storing (pos 0) (λ k. l.start +ℤ pos k) 256 l.count l.i l.keys
 
 abbrev pub decreases-loop-i : goal.decreases-loop-i
 decreases-loop-i l = l.count - l.i
