@@ -187,6 +187,7 @@ limit_le (suc n) h = le_of_values (size_limit (suc n)) array_end (suc n) 1 513 1
 
 both : (a b : Bool) → T a → T b → T (a && b)
 both true b s t = t
+both false b s t = elim s [ ]
 
 pub kept_place : (size : ℕ) → size ≤ 513 → (v : Float) → T (is_index (clamp size v))
 unfolding is_index clamp le lt eq

@@ -1,0 +1,26 @@
+-- `clamped` meets its contract. Assumes nothing.
+use mathlib.Core.Bool.{Bool, cond}
+use mathlib.Core.Logic.{⊎_elim}
+use mathlib.Core.Path.{◌≡◌, sym, ap, ◌∙◌}
+use lib.Ieee.{of_bits, lt}
+use Rattle.floats.specs.RampIndex.{nought}
+use Rattle.categoric_table.specs.forms.InTable.{size_limit, clamp}
+use Rattle.categoric_table.proofs.clamped.Goals as goal
+use Rattle.categoric_table.proofs.clamped.Goals.{Joined-value-limit_of}
+
+low-is : (c : Joined-value-limit_of) → c.if-value-limit_of.low ≡ cond (lt c.args.value (size_limit c.args.size))
+    c.args.value nought
+unfolding of_bits
+low-is c =
+    let v = c.args.value in
+    let e = ap (lt v) c.limit_of.ensures in
+    ⊎_elim (λ w. w.1 ∙ sym (ap (λ (b : Bool). cond b v nought) (sym e ∙ w.0.taken)))
+    (λ w. w.1 ∙ sym (ap (λ (b : Bool). cond b v nought) (sym e ∙ w.0.left))) c.if-value-limit_of.branch
+
+pub returns-then-low : goal.returns-then-low
+unfolding of_bits clamp
+returns-then-low c = rw (← low-is c.before, c.if-low.true)
+
+pub returns-else-low : goal.returns-else-low
+unfolding of_bits clamp
+returns-else-low c = rw (← low-is c.before, c.if-low.false)
