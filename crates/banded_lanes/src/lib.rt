@@ -108,10 +108,10 @@ fn enter(
     inside: &mut [bool; 16],
 ) -> bool
     requires { (lanes ≤ 16) × LanesOf 0 lanes (λ k. get_or words.old k 0) words.old × LanesOf false lanes (λ k. get_or inside.old k false) inside.old }
-    ensures lanes_of { LanesOf 0 lanes (λ k. cond (holds band (get_or value.now k nan)) band.color (get_or words.old k 0))
+    ensures colored { LanesOf 0 lanes (λ k. cond (holds band (get_or value.now k nan)) band.color (get_or words.old k 0))
         words.new }
-    ensures lanes_of_2 { LanesOf false lanes (λ k. get_or inside.old k false || holds band (get_or value.now k nan)) inside.new }
-    ensures value { result ≡ all_below lanes (λ k. get_or inside.old k false || holds band (get_or value.now k nan)) }
+    ensures entered { LanesOf false lanes (λ k. get_or inside.old k false || holds band (get_or value.now k nan)) inside.new }
+    ensures all_inside { result ≡ all_below lanes (λ k. get_or inside.old k false || holds band (get_or value.now k nan)) }
 {
     let mut all = true;
     let mut i: usize = 0;

@@ -1,0 +1,13 @@
+use Prim.Native.Nat.{◌-◌}
+use mathlib.Core.Path.{◌≡◌}
+use lib.ListN.{length}
+use Rattle.painting.proofs.Steps.{InChunks}
+use mathlib.Core.List.{map}
+use Rattle.linear_paint.specs.forms.Samples.{plain_sample}
+use Rattle.linear_paint.proofs.paint.Given as goal
+
+abbrev pub invariant-loop-base : goal.invariant-loop-base
+invariant-loop-base l = (l.n ≡ length l.src) × InChunks 16 (map (plain_sample l.cmap l.p)) (plain_sample l.cmap l.p) l.src l.base l.out
+
+abbrev pub decreases-loop-base : goal.decreases-loop-base
+decreases-loop-base l = l.n - l.base
