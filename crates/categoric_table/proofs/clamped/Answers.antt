@@ -1,12 +1,11 @@
 -- `clamped` meets its contract. Assumes nothing.
 use mathlib.Core.Bool.{Bool, cond}
-use mathlib.Core.Logic.{⊎_elim}
 use mathlib.Core.Path.{◌≡◌, sym, ap, ◌∙◌}
 use lib.Ieee.{of_bits, lt}
 use Rattle.floats.specs.RampIndex.{nought}
 use Rattle.categoric_table.specs.forms.InTable.{size_limit, clamp}
 use Rattle.categoric_table.proofs.clamped.Goals as goal
-use Rattle.categoric_table.proofs.clamped.Goals.{Joined-value-limit_of}
+use Rattle.categoric_table.proofs.clamped.Goals.{Joined-value-limit_of, then-value-limit_of, else-value-limit_of}
 
 low-is : (c : Joined-value-limit_of) → c.if-value-limit_of.low ≡ cond (lt c.args.value (size_limit c.args.size))
     c.args.value nought
@@ -14,8 +13,10 @@ unfolding of_bits
 low-is c =
     let v = c.args.value in
     let e = ap (lt v) c.limit_of.ensures in
-    ⊎_elim (λ w. w.1 ∙ sym (ap (λ (b : Bool). cond b v nought) (sym e ∙ w.0.taken)))
-    (λ w. w.1 ∙ sym (ap (λ (b : Bool). cond b v nought) (sym e ∙ w.0.left))) c.if-value-limit_of.branch
+    elim c.if-value-limit_of.branch [
+      | then-value-limit_of w ↦ w.low-is ∙ sym (ap (λ (b : Bool). cond b v nought) (sym e ∙ w.if-value-limit_of.true))
+      | else-value-limit_of w ↦ w.low-is ∙ sym (ap (λ (b : Bool). cond b v nought) (sym e ∙ w.if-value-limit_of.false))
+    ]
 
 pub returns-then-low : goal.returns-then-low
 unfolding of_bits clamp

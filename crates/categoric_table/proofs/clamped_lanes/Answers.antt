@@ -1,5 +1,4 @@
 -- `clamped_lanes` meets its contract. Assumes nothing.
-use Prim.Native.Nat.{◌-◌}
 use native.Mathlib.Omega.{arith}
 use lib.Ieee.{of_bits}
 use Rattle.lists.proofs.Padding.{storing_start, storing_turn}

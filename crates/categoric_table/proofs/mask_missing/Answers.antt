@@ -1,6 +1,5 @@
 -- `mask_missing` meets its contract. Assumes nothing.
 use mathlib.Core.Path.{◌∙◌}
-use Prim.Native.Nat.{◌-◌}
 use native.Mathlib.Omega.{arith}
 use Rattle.lists.proofs.Padding.{storing_start, storing_turn}
 use Rattle.lists.proofs.LanesOf.{lanes-stored}

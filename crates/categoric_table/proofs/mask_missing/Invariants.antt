@@ -8,7 +8,8 @@ use Rattle.categoric_table.proofs.mask_missing.Given as goal
 
 abbrev pub invariant-loop-i : goal.invariant-loop-i
 invariant-loop-i l =
-    Storing 0 (λ k. cond (mappable_in_table (record { nodata = l.absent; zero = l.zero }) l.size (get_or l.value k nan)) (get_or l.words k 0) l.nodata) 16 l.lanes l.i l.result
+    Storing 0 (λ k. cond (mappable_in_table (record { nodata = l.absent; zero = l.zero }) l.size (get_or l.value k nan)) (get_or l.words k 0) l.nodata)
+    16 l.lanes l.i l.result
 
 abbrev pub decreases-loop-i : goal.decreases-loop-i
 decreases-loop-i l = l.lanes - l.i

@@ -1,7 +1,7 @@
 -- `words_at` meets its contract. Assumes nothing.
 use borrow.Author.Rules.{rules}
 use mathlib.Core.Path.{ap}
-use Prim.Native.Nat.{◌-◌, ◌<◌}
+use Prim.Native.Nat.{◌<◌}
 use native.Mathlib.Omega.{arith}
 use lib.ListN.{get_or}
 use lib.Ieee.{of_bits}
@@ -19,7 +19,7 @@ unfolding of_bits
 floor-index-requires c =
     let i = c.loop-i.i in
     let p = c.requires.1 i c.loop-i-test.true in
-    (place_from _ p, place_below _ p)
+    record { from_zero = place_from _ p; below_1024 = place_below _ p }
 
 index-lt : (c : After-floor-index) → c.floor-index.result < 513
 index-lt c =
@@ -30,7 +30,7 @@ pub offset_bounds-lookup-index : goal.offset_bounds-lookup-index
 offset_bounds-lookup-index c = let l = index-lt c in search rules
 
 pub bounds-lookup-index : goal.bounds-lookup-index
-bounds-lookup-index c = let l = index-lt c.before in search rules
+bounds-lookup-index c = let l = index-lt c.before.before in search rules
 
 pub loop-i-preserved : goal.loop-i-preserved
 loop-i-preserved c =
