@@ -1,5 +1,4 @@
 -- `insert` meets its contract: over an equal key, or in the room made before a larger one. Assumes nothing.
-use mathlib.Core.Logic.{⊎_elim}
 use mathlib.Core.Path.{sym, ap, ◌∙◌}
 use native.Mathlib.Omega.{arith}
 use lib.IntN.{pos}
@@ -11,6 +10,7 @@ use Rattle.categoric_build.proofs.Inserting.{place_count}
 use Rattle.categoric_build.proofs.Putting.{put_over, put_new}
 use Rattle.categoric_lists.proofs.Numbers.{back}
 use Rattle.categoric_build.proofs.sorted.insert.Goals as goal
+use Rattle.categoric_build.proofs.sorted.insert.Goals.{then-at-count+else-keys-at, else-at-count}
 
 pub returns-then-keys-at : goal.returns-then-keys-at
 returns-then-keys-at c =
@@ -52,6 +52,9 @@ returns c =
     let a = s.args in
     let x = get_or a.keys.now p.result (pos 0) in
     put_new a.keys.now a.colors.now a.count (back a.key s.ranges.key.sfits) p.ensures
-    (λ q. ⊎_elim (λ w. sym (ap (λ z. le_z z (to_z w64 (of_z w64 a.key))) (back x w.1.given)) ∙ w.2.left) (λ w. absurd (omega arith)) d.if-at-count.branch)
+    (λ q. elim d.if-at-count.branch [
+      | then-at-count+else-keys-at w ↦ sym (ap (λ z. le_z z (to_z w64 (of_z w64 a.key))) (back x w.t12-1.given)) ∙ w.if-keys-at.false
+      | else-at-count w ↦ absurd (omega arith)
+    ])
     (c.store-2.ensures.0 ∙ ap (λ l. set l p.result (to_z w64 (of_z w64 a.key))) m.ensures.0)
     (c.store-2.ensures.1 ∙ ap (λ l. set l p.result a.color) m.ensures.1)

@@ -1,6 +1,5 @@
 -- `insertion_index` meets its contract: the loop has passed smaller keys only. Assumes nothing.
 use mathlib.Core.Path.{sym, ap, ◌∙◌}
-use Prim.Native.Nat.{◌-◌}
 use native.Mathlib.Omega.{arith}
 use lib.ListN.{take}
 use lib.Signed.{le_z}

@@ -1,5 +1,5 @@
 use mathlib.Core.Path.{◌≡◌}
-use Prim.Native.Nat.{◌-◌, ◌≤◌}
+use Prim.Native.Nat.{◌≤◌}
 use Rattle.categoric_build.specs.forms.Insertion.{shifted_up}
 use Rattle.categoric_build.proofs.sorted.shift_up.Given as goal
 

@@ -1,8 +1,7 @@
 -- `create_fast_lookup` meets its contract: the loop has written the words of the keys passed, each of which is an index of the table. Assumes nothing.
 use mathlib.Core.Bool.{true}
-use mathlib.Core.List.{List}
 use mathlib.Core.Path.{◌≡◌, sym, subst, refl, ap, ◌∙◌}
-use Prim.Native.Nat.{◌-◌, ◌<◌}
+use Prim.Native.Nat.{◌<◌}
 use native.Mathlib.Omega.{arith}
 use lib.Dec.{T}
 use lib.IntN.{ℤ, pos, nat_abs}
@@ -16,14 +15,11 @@ use Rattle.categoric_build.specs.Table.{has_table, written}
 use Rattle.categoric_lists.proofs.Numbers.{below, back, cast_is, cast_may}
 use Rattle.categoric_build.proofs.Tables.{sized, unsized, index_from_0, index_in_table, word_written, no_table, a-table}
 use Rattle.categoric_build.proofs.table.create_fast_lookup.Goals as goal
-use Rattle.categoric_build.proofs.table.create_fast_lookup.Goals.{After-at-1, Else-size-eq0, Start}
+use Rattle.categoric_build.proofs.table.create_fast_lookup.Goals.{After-at-1, Else-size-eq0}
 
--- the counted keys, that they have a table past the test, and a key as an index of it
-abbrev keys_of : Start → List ℤ
-keys_of s = take s.args.count s.args.keys.now
-
-is-there : (c : Else-size-eq0) → has_table (keys_of c) ≡ true
-is-there c = sized (keys_of c) (λ e. c.if-size-eq0.false (c.requires.2 ∙ e))
+-- that the counted keys have a table past the test, and a key as an index of it
+is-there : (c : Else-size-eq0) → has_table (take c.args.count c.args.keys.now) ≡ true
+is-there c = sized (take c.args.count c.args.keys.now) (λ e. c.if-size-eq0.false (c.requires.2 ∙ e))
 
 module _ (c : After-at-1) where
   abbrev key_of : ℤ
@@ -32,13 +28,13 @@ module _ (c : After-at-1) where
   from-0 : below key_of ≡ 0
   from-0 =
       let s = c in
-      index_from_0 s.args.keys.now s.args.count s.requires.1 s.requires.0 (is-there c) c.loop-i.i
+      index_from_0 s.args.keys.now s.args.count s.requires.1 s.requires.0 (is-there c.before.before.before) c.loop-i.i
       c.loop-i-test.true
 
   in_table : whole key_of < 513
   in_table =
       let s = c in
-      index_in_table s.args.keys.now s.args.count s.requires.1 s.requires.0 (is-there c) c.loop-i.i
+      index_in_table s.args.keys.now s.args.count s.requires.1 s.requires.0 (is-there c.before.before.before) c.loop-i.i
       c.loop-i-test.true
 
   read : to_z w64 (of_z w64 key_of) ≡ key_of
@@ -50,7 +46,8 @@ module _ (c : After-at-1) where
 pub returns-then-size-eq0 : goal.returns-then-size-eq0
 returns-then-size-eq0 c =
     let s = c in
-    no_table (keys_of s) (take s.args.count s.args.colors.now) (unsized (keys_of s) (sym s.requires.2 ∙ c.if-size-eq0.true))
+    no_table (take s.args.count s.args.keys.now) (take s.args.count s.args.colors.now)
+    (unsized (take s.args.count s.args.keys.now) (sym s.requires.2 ∙ c.if-size-eq0.true))
 
 pub loop-i-init : goal.loop-i-init
 unfolding written
@@ -60,20 +57,19 @@ pub overflow_cast-at : goal.overflow_cast-at
 overflow_cast-at c = (subst (λ z. T (non_neg z)) (sym (read c)) (cast_may (key_of c) (from-0 c)), record { fits = omega (arith, index_is c, in_table c) })
 
 pub offset_bounds-lookup-at : goal.offset_bounds-lookup-at
-offset_bounds-lookup-at c = record { fits = omega (arith, index_is c, in_table c) }
+offset_bounds-lookup-at c = record { fits = omega (arith, index_is c.before.before.before, in_table c.before.before.before) }
 
 pub bounds-lookup-at : goal.bounds-lookup-at
-bounds-lookup-at c = omega (arith, index_is c, in_table c)
+bounds-lookup-at c = omega (arith, index_is c.before.before.before, in_table c.before.before.before)
 
 pub loop-i-preserved : goal.loop-i-preserved
 loop-i-preserved c =
-    let s4 = c in
-    let s = s4 in
+    let s = c in
     let l = c.loop-i in (
       omega arith,
-      ap (λ n. set l.lookup n (get_or s.args.colors.now l.i 0)) (index_is c)
-          ∙ ap (λ r. set r (whole (key_of c)) (get_or s.args.colors.now l.i 0)) l.invariant.1
-          ∙ word_written s.args.keys.now s.args.count s.requires.1 s.requires.0 (is-there c.before.before.before.before.before) l.i
+      ap (λ n. set l.lookup n (get_or s.args.colors.now l.i 0)) (index_is c.before.before.before)
+          ∙ ap (λ r. set r (whole (key_of c.before.before.before)) (get_or s.args.colors.now l.i 0)) l.invariant.1
+          ∙ word_written s.args.keys.now s.args.count s.requires.1 s.requires.0 (is-there c.before.before.before.before.before.before) l.i
           c.loop-i-test.true s.args.colors.now (replicate 513 0),
     )
 
@@ -81,7 +77,7 @@ pub returns : goal.returns
 returns c =
     let s = c in
     let l = c.loop-i in
-    let e : l.i ≡ length (keys_of s) = omega (arith, length-take-le s.args.count s.args.keys.now (omega arith)) in
+    let e : l.i ≡ length (take s.args.count s.args.keys.now) = omega (arith, length-take-le s.args.count s.args.keys.now (omega arith)) in
     l.invariant.1
-    ∙ ap (λ n. written n (keys_of s) (take s.args.count s.args.colors.now) (replicate 513 0)) e
-    ∙ a-table (keys_of s) (take s.args.count s.args.colors.now) (is-there c.before.before)
+    ∙ ap (λ n. written n (take s.args.count s.args.keys.now) (take s.args.count s.args.colors.now) (replicate 513 0)) e
+    ∙ a-table (take s.args.count s.args.keys.now) (take s.args.count s.args.colors.now) (is-there c.before.before)
