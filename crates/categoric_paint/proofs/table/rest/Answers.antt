@@ -1,0 +1,18 @@
+-- `rest` meets its contract. Assumes nothing.
+use native.Mathlib.Omega.{arith}
+use borrow.Author.Rules.{rules}
+use Rattle.painting.proofs.LaneChunk.{rest_lanes}
+use Rattle.painting.proofs.Whole.{rest_none}
+use Rattle.categoric_paint.proofs.table.rest.Goals as goal
+
+pub returns-then-m-eq0 : goal.returns-then-m-eq0
+returns-then-m-eq0 c = let a = c.args in rest_none _ a.src.now a.out.now a.base c.if-m-eq0.true (search rules)
+
+pub returns : goal.returns
+returns c =
+    let s = c in
+    let s4 = s in
+    let s5 = s4 in
+    let a = s5.args in
+    rest_lanes a.src.now a.out.now a.base _ (omega arith) (omega arith) (omega arith) s.load-v.ensures c.store.ensures
+    _ s.words16.ensures
