@@ -17,6 +17,7 @@ use Rattle.banded_columns.specs.Order.{ascending_disjoint}
 use Rattle.banded_rule.specs.forms.Columns.{from_columns}
 use Rattle.banded_chunk.specs.forms.Searchable.{Searchable}
 use Rattle.banded_paint.proofs.paint_simd.Goals as goal
+use Rattle.banded_paint.proofs.paint_simd.Goals.{then-search, else-search}
 
 -- what the two tests tell where both hold
 both-asked : {starts ends : List Float} {colors : List ℕ} {count : ℕ} {asked : Bool} → asked ≡ ascending_disjoint (from_columns starts ends colors count)
@@ -60,7 +61,7 @@ loop-base-preserved c =
     let s = s4 in
     chunk_turn l.loop-base.invariant (lane_sizes _ s.requires.1).0 (omega arith)
     (λ xs. length-masked _ _ xs _ (lane-length _ _ xs))
-    (⊎_elim (λ w. w.5 ∙ w.2.ensures) (λ w. w.5 ∙ w.2.ensures) c.if-search.branch)
+    (elim c.if-search.branch [ then-search w ↦ w.out-is ∙ w.chunk_searched.ensures | else-search w ↦ w.out-is ∙ w.chunk.ensures ])
 
 pub rest-requires : goal.rest-requires
 rest-requires c =
