@@ -28,8 +28,8 @@ module _ (l : Legend) (nodata : Nodata) {h : View} (e : h ≡ view_of l) where
   in_lanes_lem {L} {xs} {out} {scratch} {out'} {scratch'} {answer} =
       subst (λ (x : View). LanePainting (painter (again x) nodata) L xs out scratch answer out' scratch') e
 
-  pub rules : (xs : List Float) → plain_painted (painter (again h) nodata).plain xs ≡ plain_painted (painter l nodata).plain xs
-  rules xs = ap (λ (x : View). plain_painted (painter (again x) nodata).plain xs) e
+  pub view_rules : (xs : List Float) → plain_painted (painter (again h) nodata).plain xs ≡ plain_painted (painter l nodata).plain xs
+  view_rules xs = ap (λ (x : View). plain_painted (painter (again x) nodata).plain xs) e
 
 pub stored : (l : Legend) {h : View} → h ≡ view_of l → stored_refusal l ≡ Done
     → stored_refusal (borrowed_legend h l.linear.cmap l.categoric.keys l.categoric.colors l.categoric.lookup) ≡ Done
