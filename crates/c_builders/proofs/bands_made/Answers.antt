@@ -1,0 +1,11 @@
+-- `bands_made` meets its contract. Assumes nothing.
+use mathlib.Core.Path.{ap, ◌∙◌}
+use Rattle.legend_builders.specs.Building.{banded_with_settings}
+use Rattle.c_records.specs.Records.{made_to_c}
+use Rattle.c_types.proofs.Naming.{with_both}
+use Rattle.c_builders.proofs.bands_made.Goals as goal
+
+pub returns : goal.returns
+returns c =
+    with_both made_to_c c.made_to_c.ensures c.settings_refusal.ensures
+    (c.banded_with_settings-made.ensures ∙ ap (banded_with_settings _) c.settings_from_c-config.ensures)

@@ -1,0 +1,11 @@
+-- `legend_create_banded_from_ramp` meets its contract. Assumes nothing.
+use mathlib.Core.Path.{ap, ◌∙◌}
+use Rattle.legend_builders.specs.Building.{banded_with_settings}
+use Rattle.c_records.specs.Records.{made_to_c}
+use Rattle.c_types.proofs.Naming.{with_both}
+use Rattle.c_builders.proofs.legend_create_banded_from_ramp.Goals as goal
+
+pub returns : goal.returns
+returns c =
+    with_both made_to_c c.made_to_c.ensures c.settings_refusal.ensures
+    (c.create_banded_from_ramp-made.ensures ∙ ap (banded_with_settings _) c.settings_from_c-config.ensures)

@@ -1,0 +1,20 @@
+-- `legend_create_categoric_for_value_range_from_ramp` meets its contract. Assumes nothing.
+use mathlib.Core.Path.{◌∙◌}
+use Rattle.legend_builders.specs.Building.{categoric_with_settings}
+use Rattle.c_records.specs.Records.{made_to_c}
+use Rattle.c_types.proofs.Naming.{with_both}
+use Rattle.catgegoric.specs.Made.{for_value_range_from_ramp}
+use Rattle.categoric_lists.proofs.Numbers.{back₂}
+use borrow.Author.Rules.{rules}
+use Rattle.c_builders.proofs.legend_create_categoric_for_value_range_from_ramp.Goals as goal
+
+create_categoric_for_value_range_from_ramp-made-requires :
+    tie.Need-create-categoric-for-value-range-from-ramp-requires
+create_categoric_for_value_range_from_ramp-made-requires c κs = search rules
+
+pub returns : goal.returns
+returns c =
+    let s = c in with_both made_to_c c.made_to_c.ensures c.settings_refusal.ensures
+    (c.create_categoric_for_value_range_from_ramp-made.ensures
+    ∙ (λ j. categoric_with_settings (back₂ (λ a b. for_value_range_from_ramp a b s.args.ramp.now) s.args.start s.args.end s.ranges.start.sfits
+    s.ranges.end.sfits j) (c.settings_from_c-config.ensures j)))
