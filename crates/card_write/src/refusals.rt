@@ -99,7 +99,7 @@ fn bounds_refusal(legend: Legend) -> Answer
 
 pub fn entries_length(legend: Legend) -> usize
     requires { stored_refusal legend ≡ Done }
-    ensures value { result ≡ entries_length legend }
+    ensures byte_count { result ≡ entries_length legend }
     ensures upper_bound { result ≤ 3072 }
 {
     let kind = legend.kind;

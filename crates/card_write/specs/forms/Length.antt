@@ -1,5 +1,5 @@
--- How many bytes a card has, counted before it is written. The rule is the length of `card_of`; the law is `card_length_lem` (proofs/Lengths.antt). The writer's
--- refusals by these numbers: the rule is `write_refusal`; the law is `refusal_of_lengths`, in the same file. Definitions only.
+-- How many bytes a card has, counted before it is written. The rule is the length of `card_of`; the law is `card_length_lem` (proofs/Lengths.antt).
+-- The writer's refusals by these numbers: the rule is `write_refusal`; the law is `refusal_of_lengths`, in the same file. Definitions only.
 use Rattle.std.specs.Prelude.{ℕ, ◌+◌, ◌*◌, not, ◌||◌, ltb}
 use Rattle.refusal.specs.declared.Refusal.TheVariants.{CountAboveCapacity, CardTooLong}
 use Rattle.refusal.specs.declared.Answer.{Answer}
