@@ -47,6 +47,7 @@ module _ (card : List ℕ) (n : number_at 5 1 card ≡ 0) {rest : List ℕ} (is 
   place : (k : ℕ) → number_at (15 + k) 4 rest ≡ number_at k 4 (drop 15 (after_title card))
   place k = ap (number_at (15 + k) 4) is ∙ sym (number_at-drop 15 k 4 (after_title card))
 
-  pub linear-bounds : {a b : Float} → a ≡ float_of (number_at 15 4 rest) → b ≡ float_of (number_at 19 4 rest) → range_refusal a b ≡ bounds_refusal (legend_in card)
+  pub linear-bounds : {a b : Float} → a ≡ float_of (number_at 15 4 rest) → b ≡ float_of (number_at 19 4 rest)
+      → range_refusal a b ≡ bounds_refusal (legend_in card)
   unfolding bounds_refusal linear_in
   linear-bounds e f = ap₂ range_refusal (e ∙ ap float_of (place 0)) (f ∙ ap float_of (place 4)) ∙ ap bounds_refusal (by_legend card refl refl linear)
