@@ -143,10 +143,10 @@ module _ (count : ℕ) (e : List ℕ) (bytes : Bytes e) (config : MappingConfig)
   categories = entries_in 12 count category_in e
 
   bands-long : length bands ≡ count
-  bands-long = entries.length-entriesIn 12 count band_in e
+  bands-long = entries.length-entries_in 12 count band_in e
 
   categories-long : length categories ≡ count
-  categories-long = entries.length-entriesIn 12 count category_in e
+  categories-long = entries.length-entries_in 12 count category_in e
 
   -- what the reader has tested
   linear_told : entries_fit_in kind.Linear count e ≡ true → (count ≡ 256) × (length e ≡ 1032) × (bounds_canonical e ≡ true)
@@ -186,12 +186,12 @@ module _ (count : ℕ) (e : List ℕ) (bytes : Bytes e) (config : MappingConfig)
   unfolding entries_in
   bands_again fit =
       let t = banded_told fit in
-      entries.entries-again 12 count band_bytes band_in (λ r. Bytes r × (bounds_canonical r ≡ true)) e t.1
+      entries.entries_again 12 count band_bytes band_in (λ r. Bytes r × (bounds_canonical r ≡ true)) e t.1
       (λ k h. (Bytes-drop (12 * k) e bytes, each_told bounds_canonical count (λ k. drop (12 * k) e) t.2 k h)) (λ r size kept. band_again r size kept)
 
   categories_again : entries_fit_in kind.CategoricNumeric count e ≡ true → entries_of category_bytes categories ≡ e
   categories_again fit =
-      entries.entries-again 12 count category_bytes category_in Bytes e (categoric_told fit).1 (λ k h. Bytes-drop (12 * k) e bytes)
+      entries.entries_again 12 count category_bytes category_in Bytes e (categoric_told fit).1 (λ k h. Bytes-drop (12 * k) e bytes)
       (λ r size b. category_again r b size)
 
   entries_again : (k : LegendKind) → entries_fit_in k count e ≡ true → entries_from k (legend_from k count e config) ≡ e

@@ -105,7 +105,8 @@ module _ (key : ℤ) (color : ℕ) (near : Near key) where
   put_near [] h = (near, tt)
   put_near (c ∷ cs) h = go (put_near cs h.1) (lt_z c.key key) (lt_z key c.key)
     where
-      go : All NearKey (inserted key color cs) → (t u : Bool) → All NearKey (cond t (c ∷ inserted key color cs) (cond u (category key color ∷ c ∷ cs) (category key color ∷ cs)))
+      go : All NearKey (inserted key color cs) → (t u : Bool)
+          → All NearKey (cond t (c ∷ inserted key color cs) (cond u (category key color ∷ c ∷ cs) (category key color ∷ cs)))
       go rest true u = (h.0, rest)
       go rest false true = (near, h)
       go rest false false = (near, h.1)
@@ -144,6 +145,7 @@ module _ (keys : List ℤ) (colors : List ℕ) (near : All Near keys) where
     where
       is_true : (t : Bool) → T t → t ≡ true
       is_true true h = refl
+      is_true false h = elim h [ ]
 
   categoric_writable : (config : MappingConfig) → length keys ≤ 256 → Writable (categoric_legend (record_of cs) config)
   unfolding stored_refusal in_order bounds_refusal record_of
@@ -236,6 +238,6 @@ builders_taken config =
           categoric_taken (value_range_refusal start end (length colors) (keys_refusal (range_keys start end))) (range_keys start end) colors config
           (λ e. range_told start end colors e);
       range_of_ramp = λ start end cmap.
-          categoric_taken (wide_refusal start end (keys_refusal (range_keys start end))) (range_keys start end) (ramp_colors (whole (range_count start end)) cmap)
-          config (λ e. wide_told start end (keys_refusal (range_keys start end)) e);
+          categoric_taken (wide_refusal start end (keys_refusal (range_keys start end))) (range_keys start end)
+          (ramp_colors (whole (range_count start end)) cmap) config (λ e. wide_told start end (keys_refusal (range_keys start end)) e);
     }

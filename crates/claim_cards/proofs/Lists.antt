@@ -51,8 +51,8 @@ module _ (cs : List Category) where
   pub counted-record : counted_categories (record_of cs) ≡ cs
   unfolding counted_categories record_of
   counted-record =
-      same_rule (length cs) (λ k. category (get_or (padded (pos 0) 256 (keys_of cs)) k (pos 0)) (get_or (padded 0 256 (colors_of cs)) k 0)) (λ k. get_or cs k none)
-      (λ k h. ap₂ category (key_at k h) (color_at_lem k h))
+      same_rule (length cs) (λ k. category (get_or (padded (pos 0) 256 (keys_of cs)) k (pos 0)) (get_or (padded 0 256 (colors_of cs)) k 0))
+      (λ k. get_or cs k none) (λ k h. ap₂ category (key_at k h) (color_at_lem k h))
       ∙ tabulate_own none cs
     where
       none : Category

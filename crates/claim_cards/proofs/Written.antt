@@ -108,7 +108,8 @@ module _ (l : Legend) (held : Held l) (stored : stored_refusal l ≡ Done) (orde
     banded_fits =
         let n = l.banded.count in
         let a = le-leb n 64 few in
-        let b = eq-eqb (length (entries_of band_bytes bands)) (12 * n) (length-entries_of 12 band_bytes bands length-band ∙ ap (λ (m : ℕ). 12 * m) bands-long) in
+        let b = eq-eqb (length (entries_of band_bytes bands)) (12 * n)
+        (length-entries_of 12 band_bytes bands length-band ∙ ap (λ (m : ℕ). 12 * m) bands-long) in
         let c =
         ap (λ (m : ℕ). each bounds_canonical (entries_in 12 m (λ e. e) (entries_of band_bytes bands))) (sym bands-long)
         ∙ each-written 12 band_bytes bounds_canonical HeldBand length-band band-canonical bands bands_held in
