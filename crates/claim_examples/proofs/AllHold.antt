@@ -27,9 +27,10 @@ use Rattle.catgegoric.specs.Made.{record_of, made_unless, many_refusal, values_r
 use Rattle.claim_examples.specs.Examples.{gray, G, category_of, example_word, examples, all_examples_hold}
 
 pub all_hold : T (all_examples_hold examples)
-unfolding all_examples_hold examples example_word gray G category_of tabulate padded hex_color hex_form hex_digit two_digits hex_pair pair_at alpha_of of_pairs truncated plain_index
-    lane_index fraction plain_fraction plain_entry lane_entry step position ramp_colors unmappable linear.plain_rule linear.lane_rule linear.plain_color
-    linear.lane_color last_of first_band edges plain_rule edged swept chunk_colors lane_colors banded_of beside band_step band_start equal_bands equal_refusal
-    with_equal_bands words.table_rule rule.first_key rule.key_rule rule.plain_rule rule.plain_color words.table_color rule.key_color inserted inserted_up_to foremost
-    has_table table_size written table outside_from record_of made_unless many_refusal values_refusal add sub neg mul div lt le eq is_nan of_int of_bits
+unfolding all_examples_hold examples example_word gray G category_of tabulate padded hex_color hex_form hex_digit two_digits hex_pair pair_at alpha_of
+    of_pairs truncated plain_index lane_index fraction plain_fraction plain_entry lane_entry step position ramp_colors unmappable linear.plain_rule
+    linear.lane_rule linear.plain_color linear.lane_color last_of first_band edges plain_rule edged swept chunk_colors lane_colors banded_of beside
+    band_step band_start equal_bands equal_refusal with_equal_bands words.table_rule rule.first_key rule.key_rule rule.plain_rule rule.plain_color
+    words.table_color rule.key_color inserted inserted_up_to foremost has_table table_size written table outside_from record_of made_unless many_refusal
+    values_refusal add sub neg mul div lt le eq is_nan of_int of_bits
 all_hold = tt
