@@ -134,8 +134,8 @@ module _ (l : Legend) (nodata : Nodata) (L : ℕ) where
       let lane = linear.lane_color m.cmap m.start m.end u in let plain = linear.plain_color m.cmap m.start m.end u in
       record {
         chunks = λ s. by_lanes test nd test_alike (RoundingExceptionIn kind.Linear l nodata) _ _ lane plain
-            (λ v e. ⊎_elim (λ q. inl q) (λ o. inr (e, o)) (linear-law.lane-law m.start m.end v h m.cmap u))
-            (λ v o. let d = linear-law.odd-law m.start m.end v h m.cmap u f g o.1 in (o.0, d.0, d.1))
+            (λ v e. ⊎_elim (λ q. inl q) (λ o. inr (e, o)) (linear-law.lane_law m.start m.end v h m.cmap u))
+            (λ v o. let d = linear-law.odd_law m.start m.end v h m.cmap u f g o.1 in (o.0, d.0, d.1))
             (by_zeros lane (λ s t. lane_zeros s t m.cmap m.start m.end u)) L;
         exception-in_lanes = λ v o. refl;
         plain_by_sample = masked_alike test nd test_alike plain (by_zeros plain (λ s t. plain_zeros s t m.cmap m.start m.end u));
@@ -145,7 +145,7 @@ module _ (l : Legend) (nodata : Nodata) (L : ℕ) where
       let plain-alike = by_zeros (bands.plain_color bs u) (λ s t. banded_zeros s t bs u) in
       record {
         chunks = λ s. by_chunk test nd test_alike _ _ (lanes.lane_colors bs u) (bands.plain_color bs u)
-            (band-law.lane-length bs u) (λ c k q e. band-law.lane-law bs h u c k (real nodata flag (get_or c k nan) e)) plain-alike L;
+            (band-law.lane_length bs u) (λ c k q e. band-law.lane_law bs h u c k (real nodata flag (get_or c k nan) e)) plain-alike L;
         exception-in_lanes = λ v o. absurd o;
         plain_by_sample = masked_alike test nd test_alike (bands.plain_color bs u) plain-alike;
       }

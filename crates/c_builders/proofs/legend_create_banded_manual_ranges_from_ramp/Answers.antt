@@ -6,9 +6,8 @@ use Rattle.c_types.proofs.Naming.{with_both}
 use borrow.Author.Rules.{rules}
 use Rattle.c_builders.proofs.legend_create_banded_manual_ranges_from_ramp.Goals as goal
 
-create_banded_manual_ranges_from_ramp-made-requires :
-    tie.Need-create-banded-manual-ranges-from-ramp-requires
-create_banded_manual_ranges_from_ramp-made-requires c κs = search rules
+pub create_banded_manual_ranges_from_ramp-made-requires : goal.create_banded_manual_ranges_from_ramp-made-requires
+create_banded_manual_ranges_from_ramp-made-requires c = search rules
 
 pub returns : goal.returns
 returns c =

@@ -6,9 +6,8 @@ use Rattle.c_types.proofs.Naming.{with_both}
 use borrow.Author.Rules.{rules}
 use Rattle.c_builders.proofs.legend_create_categoric_for_value_list_from_ramp.Goals as goal
 
-create_categoric_for_value_list_from_ramp-made-requires :
-    tie.Need-create-categoric-for-value-list-from-ramp-requires
-create_categoric_for_value_list_from_ramp-made-requires c κs = search rules
+pub create_categoric_for_value_list_from_ramp-made-requires : goal.create_categoric_for_value_list_from_ramp-made-requires
+create_categoric_for_value_list_from_ramp-made-requires c = search rules
 
 pub returns : goal.returns
 returns c =
