@@ -145,7 +145,7 @@ module _ (l : Legend) (nodata : Nodata) (L : ℕ) where
       let plain-alike = by_zeros (bands.plain_color bs u) (λ s t. banded_zeros s t bs u) in
       record {
         chunks = λ s. by_chunk test nd test_alike _ _ (lanes.lane_colors bs u) (bands.plain_color bs u)
-            (band-law.lane_length bs u) (λ c k q e. band-law.lane_law bs h u c k (real nodata flag (get_or c k nan) e)) plain-alike L;
+            (band-law.lane-length bs u) (λ c k q e. band-law.lane_law bs h u c k (real nodata flag (get_or c k nan) e)) plain-alike L;
         exception-in_lanes = λ v o. absurd o;
         plain_by_sample = masked_alike test nd test_alike (bands.plain_color bs u) plain-alike;
       }
