@@ -1,5 +1,5 @@
 -- A band, and which samples it holds (docs/RULES.md, "Banded"). Definitions only.
-use Rattle.std.specs.Prelude.{ℕ, Bool, ◌&&◌, List, [], ◌∷◌, Float}
+use Rattle.std.specs.Prelude.{Bool, ◌&&◌, List, [], ◌∷◌, Float}
 use Rattle.std.specs.Float.Ieee.{lt, le}
 use Rattle.banded_columns.specs.declared.LegendBand.{LegendBand}
 

@@ -14,7 +14,7 @@ use Rattle.banded_columns.specs.declared.LegendBand.{LegendBand}
 use Rattle.banded_columns.specs.Band.{holds, last_of}
 use Rattle.banded_rule.specs.PlainRule.{plain_rule, plain_color}
 use Rattle.banded_lanes.specs.Edges.{Lane, edged}
-use Rattle.banded_lanes.specs.LaneRule.{started, over, all_inside, Sweep, swept, chunk_colors, lane_colors}
+use Rattle.banded_lanes.specs.LaneRule.{started, over, all_inside, swept, chunk_colors, lane_colors}
 use Rattle.banded_lanes.specs.Conditions.{LawfulBands}
 use Rattle.lists.proofs.Entries.{map_same, map_at}
 use Rattle.banded_lanes.proofs.SampleLaw.{lane_in, held, edges_law, early_law}

@@ -22,8 +22,7 @@ use c_types::settings::LegendSettings;
 use c_types::{refusals, settings};
 use colormap::ProcessedColorMap;
 
-#[unsafe(no_mangle)]
-pub extern "C" fn legend_create_linear(
+pub fn legend_create_linear(
     colors: &[u32],
     start: f32,
     end: f32,
@@ -36,8 +35,7 @@ pub extern "C" fn legend_create_linear(
     record::made_to_c(refusals::settings_refusal(settings), made)
 }
 
-#[unsafe(no_mangle)]
-pub extern "C" fn legend_create_linear_from_ramp(
+pub fn legend_create_linear_from_ramp(
     ramp: &[u32; 256],
     start: f32,
     end: f32,
@@ -51,8 +49,7 @@ pub extern "C" fn legend_create_linear_from_ramp(
     record::made_to_c(refusals::settings_refusal(settings), made)
 }
 
-#[unsafe(no_mangle)]
-pub extern "C" fn legend_create_banded(
+pub fn legend_create_banded(
     count: usize,
     colors: &[u32],
     start: f32,
@@ -66,8 +63,7 @@ pub extern "C" fn legend_create_banded(
     record::made_to_c(refusals::settings_refusal(settings), made)
 }
 
-#[unsafe(no_mangle)]
-pub extern "C" fn legend_create_banded_from_ramp(
+pub fn legend_create_banded_from_ramp(
     count: usize,
     ramp: &[u32; 256],
     start: f32,
@@ -82,8 +78,7 @@ pub extern "C" fn legend_create_banded_from_ramp(
     record::made_to_c(refusals::settings_refusal(settings), made)
 }
 
-#[unsafe(no_mangle)]
-pub extern "C" fn legend_create_banded_manual_ranges(
+pub fn legend_create_banded_manual_ranges(
     colors: &[u32],
     ranges: ValueRanges,
     settings: LegendSettings,
@@ -95,8 +90,7 @@ pub extern "C" fn legend_create_banded_manual_ranges(
     record::made_to_c(refusals::settings_refusal(settings), made)
 }
 
-#[unsafe(no_mangle)]
-pub extern "C" fn legend_create_banded_manual_ranges_from_ramp(
+pub fn legend_create_banded_manual_ranges_from_ramp(
     ramp: &[u32; 256],
     ranges: ValueRanges,
     settings: LegendSettings,
@@ -110,8 +104,7 @@ pub extern "C" fn legend_create_banded_manual_ranges_from_ramp(
 }
 
 // Bands as given. A lent list of structs, so it is proved by hand.
-#[unsafe(no_mangle)]
-pub extern "C" fn legend_create_banded_as_given(
+pub fn legend_create_banded_as_given(
     bands: &[LegendBand],
     settings: LegendSettings,
 ) -> LegendMade
@@ -128,8 +121,7 @@ fn bands_made(given: MadeBanded, settings: LegendSettings) -> LegendMade
     record::made_to_c(refusals::settings_refusal(settings), made)
 }
 
-#[unsafe(no_mangle)]
-pub extern "C" fn legend_create_categoric_for_value_list(
+pub fn legend_create_categoric_for_value_list(
     colors: &[u32],
     values: &[i64],
     settings: LegendSettings,
@@ -142,8 +134,7 @@ pub extern "C" fn legend_create_categoric_for_value_list(
     record::made_to_c(refusals::settings_refusal(settings), made)
 }
 
-#[unsafe(no_mangle)]
-pub extern "C" fn legend_create_categoric_for_value_list_from_ramp(
+pub fn legend_create_categoric_for_value_list_from_ramp(
     ramp: &[u32; 256],
     values: &[i64],
     settings: LegendSettings,
@@ -156,8 +147,7 @@ pub extern "C" fn legend_create_categoric_for_value_list_from_ramp(
     record::made_to_c(refusals::settings_refusal(settings), made)
 }
 
-#[unsafe(no_mangle)]
-pub extern "C" fn legend_create_categoric_for_value_range(
+pub fn legend_create_categoric_for_value_range(
     colors: &[u32],
     start: i64,
     end: i64,
@@ -170,8 +160,7 @@ pub extern "C" fn legend_create_categoric_for_value_range(
     record::made_to_c(refusals::settings_refusal(settings), made)
 }
 
-#[unsafe(no_mangle)]
-pub extern "C" fn legend_create_categoric_for_value_range_from_ramp(
+pub fn legend_create_categoric_for_value_range_from_ramp(
     ramp: &[u32; 256],
     start: i64,
     end: i64,

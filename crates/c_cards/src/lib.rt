@@ -30,8 +30,7 @@ pub struct LegendTitlePart {
 }
 
 // The card of a legend, in the first bytes of a buffer. Once a legend, so the record comes by value: the header's function takes a pointer.
-#[unsafe(no_mangle)]
-pub extern "C" fn legend_record_write_card(
+pub fn legend_record_write_card(
     legend: LegendRecord,
     title: &[u8],
     buffer: &mut [u8],
@@ -54,16 +53,14 @@ pub extern "C" fn legend_record_write_card(
 }
 
 // The legend on a card.
-#[unsafe(no_mangle)]
-pub extern "C" fn legend_read_card(card: &[u8]) -> LegendMade
+pub fn legend_read_card(card: &[u8]) -> LegendMade
     ensures { result ≡ made_to_c Done (legend_of_card card.now) }
 {
     record::made_to_c(Answer::Done, card_read::read(card))
 }
 
 // The title on a card: an exported call cannot return a part of it, so it returns the part's place.
-#[unsafe(no_mangle)]
-pub extern "C" fn legend_card_title_part(card: &[u8]) -> LegendTitlePart
+pub fn legend_card_title_part(card: &[u8]) -> LegendTitlePart
     ensures { result ≡ title_part (title_of_card card.now) }
 {
     let title = card_read::title(card);

@@ -11,8 +11,7 @@ use c_types::answer::LegendAnswer;
 use c_types::{answer, refusals, samples};
 use refusal::Answer;
 
-#[unsafe(no_mangle)]
-pub extern "C" fn legend_view_paint_lanes_f32(
+pub fn legend_view_paint_lanes_f32(
     view: LegendView,
     banded: Banded,
     cmap: &[u32; 256],
@@ -47,8 +46,7 @@ pub extern "C" fn legend_view_paint_lanes_f32(
     ))
 }
 
-#[unsafe(no_mangle)]
-pub extern "C" fn legend_view_paint_lanes_u8(
+pub fn legend_view_paint_lanes_u8(
     view: LegendView,
     banded: Banded,
     cmap: &[u32; 256],
@@ -84,8 +82,7 @@ pub extern "C" fn legend_view_paint_lanes_u8(
     ))
 }
 
-#[unsafe(no_mangle)]
-pub extern "C" fn legend_view_paint_lanes_i16(
+pub fn legend_view_paint_lanes_i16(
     view: LegendView,
     banded: Banded,
     cmap: &[u32; 256],

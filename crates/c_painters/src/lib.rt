@@ -2,5 +2,5 @@
 // is refused, no buffer is touched.
 #![tactic(auto)]
 
-mod lanes;
-mod plain;
+pub mod lanes;
+pub mod plain;

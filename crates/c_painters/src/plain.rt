@@ -11,8 +11,7 @@ use c_types::answer::LegendAnswer;
 use c_types::{answer, refusals, samples};
 use refusal::Answer;
 
-#[unsafe(no_mangle)]
-pub extern "C" fn legend_view_paint_f32(
+pub fn legend_view_paint_f32(
     view: LegendView,
     banded: Banded,
     cmap: &[u32; 256],
@@ -43,8 +42,7 @@ pub extern "C" fn legend_view_paint_f32(
     ))
 }
 
-#[unsafe(no_mangle)]
-pub extern "C" fn legend_view_paint_u8(
+pub fn legend_view_paint_u8(
     view: LegendView,
     banded: Banded,
     cmap: &[u32; 256],
@@ -75,8 +73,7 @@ pub extern "C" fn legend_view_paint_u8(
     ))
 }
 
-#[unsafe(no_mangle)]
-pub extern "C" fn legend_view_paint_i16(
+pub fn legend_view_paint_i16(
     view: LegendView,
     banded: Banded,
     cmap: &[u32; 256],

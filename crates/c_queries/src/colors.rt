@@ -9,16 +9,14 @@ use c_answers::colors::{LegendColor, LegendPalette};
 use color::Color;
 
 // The colour of `#RRGGBB` or `#RRGGBBAA`.
-#[unsafe(no_mangle)]
-pub extern "C" fn legend_hex(text: &[u8]) -> LegendColor
+pub fn legend_hex(text: &[u8]) -> LegendColor
     ensures { result ≡ hex_to_c (hex_color text.now) }
 {
     colors::hex_to_c(Color::from_hex_string(text))
 }
 
 // The palette with a number.
-#[unsafe(no_mangle)]
-pub extern "C" fn legend_palette(number: usize) -> LegendPalette
+pub fn legend_palette(number: usize) -> LegendPalette
     ensures { result ≡ palette_to_c (palette_of number) }
 {
     colors::palette_to_c(palettes::palette_of(number))

@@ -7,8 +7,7 @@ use c_answers::keys;
 use c_answers::keys::LegendKey;
 
 // The key of a sample.
-#[unsafe(no_mangle)]
-pub extern "C" fn legend_to_i64(x: f32) -> LegendKey
+pub fn legend_to_i64(x: f32) -> LegendKey
     ensures { result ≡ key_to_c (truncated x) }
 {
     keys::key_to_c(cast::to_i64(x))

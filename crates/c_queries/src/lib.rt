@@ -2,7 +2,7 @@
 // used for.
 #![tactic(auto)]
 
-mod colors;
-mod keys;
-mod ramps;
-mod uses;
+pub mod colors;
+pub mod keys;
+pub mod ramps;
+pub mod uses;

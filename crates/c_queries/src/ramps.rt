@@ -8,32 +8,28 @@ use c_answers::ramps;
 use c_answers::ramps::LegendRamp;
 
 // A list of colours spread over a ramp.
-#[unsafe(no_mangle)]
-pub extern "C" fn legend_ramp_from_list(colors: &[u32]) -> LegendRamp
+pub fn legend_ramp_from_list(colors: &[u32]) -> LegendRamp
     ensures { result ≡ ramp_to_c (ramp_of_list colors.now) }
 {
     ramps::ramp_to_c(colormap::create(colors))
 }
 
 // A palette spread over a ramp.
-#[unsafe(no_mangle)]
-pub extern "C" fn legend_ramp_from_palette(number: usize) -> LegendRamp
+pub fn legend_ramp_from_palette(number: usize) -> LegendRamp
     ensures { result ≡ ramp_to_c (ramp_of_preset number) }
 {
     ramps::ramp_to_c(colormap::create_for_preset(number))
 }
 
 // The colour of a fraction. The ramp is lent: by value it would be copied at each call.
-#[unsafe(no_mangle)]
-pub extern "C" fn legend_get_color(ramp: &[u32; 256], fraction: f32) -> u32
+pub fn legend_get_color(ramp: &[u32; 256], fraction: f32) -> u32
     ensures { result ≡ entry_color ramp.now (plain_entry fraction) }
 {
     lookup::get_color(ramp, fraction)
 }
 
 // The colour of a fraction by the rule of the lanes: one lane of the look-up that the painters use.
-#[unsafe(no_mangle)]
-pub extern "C" fn legend_get_color_simd(ramp: &[u32; 256], fraction: f32) -> u32
+pub fn legend_get_color_simd(ramp: &[u32; 256], fraction: f32) -> u32
     ensures { result ≡ entry_color ramp.now (lane_entry fraction) }
 {
     let colors = lookup::get_color_simd(1, ramp, [fraction; 16]);

@@ -22,8 +22,7 @@ use c_types::{refusals, samples};
 
 // ---- the colour of a sample, by a legend whose arrays are borrowed
 
-#[unsafe(no_mangle)]
-pub extern "C" fn legend_view_color_for_f32(
+pub fn legend_view_color_for_f32(
     view: LegendView,
     banded: Banded,
     cmap: &[u32; 256],
@@ -53,8 +52,7 @@ pub extern "C" fn legend_view_color_for_f32(
     )
 }
 
-#[unsafe(no_mangle)]
-pub extern "C" fn legend_view_color_for_u8(
+pub fn legend_view_color_for_u8(
     view: LegendView,
     banded: Banded,
     cmap: &[u32; 256],
@@ -84,8 +82,7 @@ pub extern "C" fn legend_view_color_for_u8(
     )
 }
 
-#[unsafe(no_mangle)]
-pub extern "C" fn legend_view_color_for_i16(
+pub fn legend_view_color_for_i16(
     view: LegendView,
     banded: Banded,
     cmap: &[u32; 256],
@@ -117,8 +114,7 @@ pub extern "C" fn legend_view_color_for_i16(
 
 // ---- the whole range of values, and the list of colours. Once a legend, so the record comes by value: the header's functions take a pointer.
 
-#[unsafe(no_mangle)]
-pub extern "C" fn legend_record_total_value_range(legend: LegendRecord) -> LegendValueRange
+pub fn legend_record_total_value_range(legend: LegendRecord) -> LegendValueRange
     ensures { result ≡ range_to_c (legend_refusal legend.settings legend.kind) (total_value_range (legend_from_c legend)) }
 {
     let range = legend_range::total_value_range(record::legend_from_c(legend));
@@ -128,8 +124,7 @@ pub extern "C" fn legend_record_total_value_range(legend: LegendRecord) -> Legen
     )
 }
 
-#[unsafe(no_mangle)]
-pub extern "C" fn legend_record_color_list(legend: LegendRecord) -> LegendColorList
+pub fn legend_record_color_list(legend: LegendRecord) -> LegendColorList
     ensures { result ≡ list_to_c (legend_refusal legend.settings legend.kind) (color_list (legend_from_c legend)) }
 {
     let list = legend_apply::color_list(record::legend_from_c(legend));

@@ -1,5 +1,5 @@
 -- `enter` meets its contract: the loop replaces the lanes' places of both arrays, and its flag tests each lane passed. Assumes nothing.
-use Prim.Native.Nat.{ℕ, ◌-◌}
+use Prim.Native.Nat.{ℕ}
 use mathlib.Core.Path.{ap₂, ◌≡◌, refl, ap, ◌∙◌}
 use mathlib.Core.Bool.{Bool, false, cond, ◌&&◌, ◌||◌}
 use native.Mathlib.Omega.{arith}

@@ -1,5 +1,4 @@
 -- `nodata_lanes` meets its contract. Assumes nothing.
-use Prim.Native.Nat.{◌-◌}
 use mathlib.Core.Path.{refl}
 use native.Mathlib.Omega.{arith}
 use Rattle.lists.proofs.Padding.{storing_start, storing_turn}

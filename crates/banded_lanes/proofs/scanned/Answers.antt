@@ -1,5 +1,4 @@
 -- `scanned` meets its contract: the invariant says that the bands from i on make of the lanes so far what all bands make of the chunk. Assumes nothing.
-use Prim.Native.Nat.{◌-◌}
 use native.Mathlib.Omega.{arith}
 use borrow.Author.Rules.{rules}
 use Rattle.banded_lanes.proofs.Chunk.{scanning_start, scanning_turn, scanning_finished, scanning_end}

@@ -1,5 +1,4 @@
 -- `equal_bands` meets its contract. Assumes nothing.
-use Prim.Native.Nat.{◌-◌}
 use native.Mathlib.Omega.{arith}
 use lib.Ieee.{in_float}
 use lib.Dec.{le→leb}

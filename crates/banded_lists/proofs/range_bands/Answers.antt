@@ -1,12 +1,10 @@
 -- `range_bands` meets its contract. Assumes nothing.
-use Prim.Native.Nat.{◌-◌}
 use mathlib.Core.Path.{◌≡◌, ap, ◌∙◌}
 use native.Mathlib.Omega.{arith}
 use lib.ListN.{length, take, length-take}
 use borrow.Author.Rules.{rules}
 use Rattle.lists.proofs.Padding.{storing_turn, storing_end}
 use Rattle.banded_lists.specs.Padded.{padded_bands}
-use Rattle.banded_lists.specs.ManualRanges.{band_of}
 use Rattle.banded_lists.proofs.Storing.{no_bands-stored}
 use Rattle.banded_lists.proofs.Manual.{range-bands, range_length}
 use Rattle.banded_lists.proofs.Past.{no_range}

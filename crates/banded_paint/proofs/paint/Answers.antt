@@ -1,7 +1,6 @@
 -- `paint` meets its contract. Assumes nothing.
 use borrow.Author.Rules.{rules}
 use native.Mathlib.Omega.{arith}
-use Prim.Native.Nat.{◌-◌}
 use mathlib.Core.Path.{sym, ◌∙◌}
 use lib.ListN.{length-map}
 use Rattle.painting.proofs.Steps.{chunks_start, chunk_turn, chunks-end}

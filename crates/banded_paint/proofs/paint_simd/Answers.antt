@@ -1,14 +1,13 @@
 -- `paint_simd` meets its contract. Assumes nothing.
 use borrow.Author.Rules.{rules}
 use native.Mathlib.Omega.{arith}
-use Prim.Native.Nat.{ℕ, ◌-◌}
+use Prim.Native.Nat.{ℕ}
 use borrow.Author.Tests.{ltb-true}
 use lib.Dec.{T, ltb}
 use lib.Ieee.{Float}
 use mathlib.Core.Path.{◌≡◌, sym, subst, ◌∙◌}
 use mathlib.Core.Bool.{Bool, true, false, ◌&&◌}
 use mathlib.Core.List.{List}
-use mathlib.Core.Logic.{⊎_elim}
 use Rattle.banded_lanes.proofs.LaneLaw.{lane-length}
 use Rattle.painting.proofs.Refusals.{lane_sizes}
 use Rattle.painting.proofs.Steps.{chunks_start, chunk_turn, chunks-end}

@@ -3,7 +3,6 @@ use Prim.Native.Nat.{◌-◌}
 use mathlib.Core.Path.{ap₂, sym, ◌∙◌}
 use native.Mathlib.Omega.{arith}
 use Rattle.banded_columns.specs.declared.LegendBand.{LegendBand}
-use Rattle.banded_columns.specs.Band.{holds}
 use Rattle.banded_rule.specs.forms.Columns.{band_at}
 use Rattle.banded_rule.specs.forms.Steps.{edge_color}
 use Rattle.banded_rule.proofs.Forms.{plain_packed, plain-none, first_held, first_passed, first_end}

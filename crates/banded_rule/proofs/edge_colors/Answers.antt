@@ -1,9 +1,7 @@
 -- `edge_colors` meets its contract: the loop fills each place by the plain rule's edges. Assumes nothing.
-use Prim.Native.Nat.{◌-◌}
 use native.Mathlib.Omega.{arith}
 use borrow.Author.Rules.{rules}
 use Rattle.lists.proofs.Filling.{filling_start, filling_turn, filling_end}
-use Rattle.banded_rule.specs.forms.Steps.{edge_color}
 use Rattle.banded_rule.proofs.edge_colors.Goals as goal
 
 pub loop-i-init : goal.loop-i-init

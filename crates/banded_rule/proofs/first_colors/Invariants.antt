@@ -1,4 +1,4 @@
-use Prim.Native.Nat.{◌-◌, ◌≤◌}
+use Prim.Native.Nat.{◌≤◌}
 use lib.ListN.{get_or, drop}
 use lib.Ieee.{nan}
 use Rattle.lists.specs.Lanes.{Lanes}

@@ -1,12 +1,10 @@
 -- `overwritten` meets its contract: the loop fills each place with the band's colour, or with what it held. Assumes nothing.
-use Prim.Native.Nat.{◌-◌}
 use mathlib.Core.Path.{ap, ◌∙◌}
 use mathlib.Core.Bool.{Bool, cond}
 use native.Mathlib.Omega.{arith}
 use lib.ListN.{get_or}
 use borrow.Author.Rules.{rules}
 use Rattle.lists.proofs.Filling.{filling_start, filling_turn, filling_end}
-use Rattle.banded_columns.specs.Band.{holds}
 use Rattle.banded_rule.proofs.overwritten.Goals as goal
 
 pub loop-i-init : goal.loop-i-init

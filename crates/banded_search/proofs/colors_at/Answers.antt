@@ -1,5 +1,4 @@
 -- `colors_at` meets its contract: the loop fills each index with the colour that stands at the lane's index. Assumes nothing.
-use Prim.Native.Nat.{◌-◌}
 use native.Mathlib.Omega.{arith}
 use Rattle.lists.proofs.Padding.{storing_start, storing_turn}
 use Rattle.lists.proofs.LanesOf.{lanes-stored}

@@ -12,5 +12,5 @@ returns c =
     let bands = c.args.bands.now in
     c.given.ensures
     ∙ ap (beside (given_refusal (length bands)))
-          (c.with_bands.ensures ∙ ap₂ (λ x k. folded with_band x (take k bands)) c.default.ensures c.at_most_64.ensures)
+    (c.with_bands.ensures ∙ ap₂ (λ x k. folded with_band x (take k bands)) c.default.ensures c.at_most_64.ensures)
     ∙ is-given bands

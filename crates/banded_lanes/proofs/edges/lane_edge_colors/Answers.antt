@@ -1,9 +1,7 @@
 -- `lane_edge_colors` meets its contract: the loop fills each lane's place by the lane rule's edges. Assumes nothing.
-use Prim.Native.Nat.{◌-◌}
 use native.Mathlib.Omega.{arith}
 use Rattle.lists.proofs.Padding.{storing_start, storing_turn}
 use Rattle.lists.proofs.LanesOf.{lanes-stored}
-use Rattle.banded_lanes.specs.Edges.{lane_edge_color}
 use Rattle.banded_lanes.proofs.edges.lane_edge_colors.Goals as goal
 
 pub loop-i-init : goal.loop-i-init

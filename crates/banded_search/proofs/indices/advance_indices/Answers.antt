@@ -1,5 +1,5 @@
 -- `advance_indices` meets its contract: the loop fills each index with the one that was there, moved on by a flag. Assumes nothing.
-use Prim.Native.Nat.{ℕ, ◌+◌, ◌-◌}
+use Prim.Native.Nat.{ℕ, ◌+◌}
 use mathlib.Core.Path.{ap}
 use native.Mathlib.Omega.{arith}
 use lib.ListN.{get_or}

@@ -1,5 +1,5 @@
 -- `band_indices` meets its contract: the invariant says that each lane's index counts the starts passed. Assumes nothing.
-use Prim.Native.Nat.{ℕ, ◌+◌, ◌-◌, min}
+use Prim.Native.Nat.{ℕ, ◌+◌, min}
 use mathlib.Core.Path.{◌≡◌, subst}
 use native.Mathlib.Omega.{arith}
 use Rattle.banded_search.proofs.Indexing.{indexed_start, indexed_turn}

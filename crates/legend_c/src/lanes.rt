@@ -1,0 +1,113 @@
+// Painting in lanes.
+ghost use Rattle.std.specs.Prelude.{map};
+ghost use Rattle.cast.specs.Samples.{of_u8, of_i16};
+ghost use Rattle.c_types.specs.Samples.{nodata_if};
+ghost use Rattle.c_painters.specs.Painting.{painter_of_view, LaneOutcome};
+
+use banded::Banded;
+use c_records::view::LegendView;
+use c_types::answer::LegendAnswer;
+
+#[unsafe(no_mangle)]
+pub extern "C" fn legend_view_paint_lanes_f32(
+    view: LegendView,
+    banded: Banded,
+    cmap: &[u32; 256],
+    keys: &[i64; 256],
+    colors: &[u32; 256],
+    lookup: &[u32; 513],
+    lanes: usize,
+    src: &[f32],
+    nodata_given: u32,
+    nodata: f32,
+    out: &mut [u32],
+    scratch: &mut [u32],
+) -> LegendAnswer
+    ensures { LaneOutcome (painter_of_view view banded cmap.now keys.now colors.now lookup.now nodata_given
+        (nodata_if nodata_given nodata)) lanes src.now out.old scratch.old result out.new scratch.new }
+{
+    c_painters::lanes::legend_view_paint_lanes_f32(
+        view,
+        banded,
+        cmap,
+        keys,
+        colors,
+        lookup,
+        lanes,
+        src,
+        nodata_given,
+        nodata,
+        out,
+        scratch,
+    )
+}
+
+#[unsafe(no_mangle)]
+pub extern "C" fn legend_view_paint_lanes_u8(
+    view: LegendView,
+    banded: Banded,
+    cmap: &[u32; 256],
+    keys: &[i64; 256],
+    colors: &[u32; 256],
+    lookup: &[u32; 513],
+    lanes: usize,
+    src: &[u8],
+    nodata_given: u32,
+    nodata: u8,
+    out: &mut [u32],
+    scratch: &mut [u32],
+) -> LegendAnswer
+    ensures { LaneOutcome (painter_of_view view banded cmap.now keys.now colors.now lookup.now nodata_given
+        (nodata_if nodata_given (of_u8 nodata))) lanes (map of_u8 src.now) out.old scratch.old result out.new
+        scratch.new }
+{
+    c_painters::lanes::legend_view_paint_lanes_u8(
+        view,
+        banded,
+        cmap,
+        keys,
+        colors,
+        lookup,
+        lanes,
+        src,
+        nodata_given,
+        nodata,
+        out,
+        scratch,
+    )
+}
+
+#[unsafe(no_mangle)]
+pub extern "C" fn legend_view_paint_lanes_i16(
+    view: LegendView,
+    banded: Banded,
+    cmap: &[u32; 256],
+    keys: &[i64; 256],
+    colors: &[u32; 256],
+    lookup: &[u32; 513],
+    lanes: usize,
+    src: &[i16],
+    nodata_given: u32,
+    nodata: i16,
+    out: &mut [u32],
+    scratch: &mut [u32],
+) -> LegendAnswer
+    ensures { LaneOutcome (painter_of_view view banded cmap.now keys.now colors.now lookup.now nodata_given
+        (nodata_if nodata_given (of_i16 nodata))) lanes (map of_i16 src.now) out.old scratch.old result out.new
+        scratch.new }
+{
+    c_painters::lanes::legend_view_paint_lanes_i16(
+        view,
+        banded,
+        cmap,
+        keys,
+        colors,
+        lookup,
+        lanes,
+        src,
+        nodata_given,
+        nodata,
+        out,
+        scratch,
+    )
+}
