@@ -1,0 +1,15 @@
+-- `words_at` meets its contract. Assumes nothing.
+use borrow.Author.Rules.{rules}
+use native.Mathlib.Omega.{arith}
+use mathlib.Core.Path.{refl}
+use Rattle.lists.proofs.Filling.{filling_start, filling_turn, filled}
+use Rattle.replay_rows.proofs.part.words_at.Goals as goal
+
+pub loop-i-init : goal.loop-i-init
+loop-i-init c = filling_start (search rules)
+
+pub loop-i-preserved : goal.loop-i-preserved
+loop-i-preserved c = filling_turn c.loop-i.invariant (omega arith) (omega arith) (refl)
+
+pub returns : goal.returns
+returns c = filled c.loop-i.invariant (omega arith)
