@@ -7,6 +7,7 @@ use colormap::ProcessedColorMap;
 use colormapper::{MappingConfig, OptionalColor};
 use legend_builders::MadeLegend;
 use refusal::Answer;
+use std::io;
 
 // Colours that stand for themselves: those of A and B, and of the settings.
 const A: u32 = 101;
@@ -80,25 +81,28 @@ pub fn two_keys(first: i64, second: i64) -> MadeLegend {
 // ---- painting
 
 // Writes the word of a sample: a raster of one, painted plainly.
-pub fn painted(made: MadeLegend, value: f32) {
+pub fn painted(rt: &impl Print, made: MadeLegend, value: f32) -> io::Result<()> {
     let answer = made.answer;
     if let Answer::Refused(why) = answer {
-        say::refused(why);
-        return;
+        return say::refused(rt, why);
     }
     let legend = made.legend;
     let samples = [value; 1];
     let mut words = [0u32; 1];
     let done = legend_apply::apply_to_data_scalar(legend, &samples, Nodata::Absent, &mut words);
-    told(done, words[0]);
+    told(rt, done, words[0])
 }
 
 // Writes the word of a sample in a chunk of four lanes, the second of which holds another sample.
-pub fn painted_in_lanes(made: MadeLegend, value: f32, second: f32) {
+pub fn painted_in_lanes(
+    rt: &impl Print,
+    made: MadeLegend,
+    value: f32,
+    second: f32,
+) -> io::Result<()> {
     let answer = made.answer;
     if let Answer::Refused(why) = answer {
-        say::refused(why);
-        return;
+        return say::refused(rt, why);
     }
     let legend = made.legend;
     let samples = [value, second, value, value];
@@ -112,42 +116,40 @@ pub fn painted_in_lanes(made: MadeLegend, value: f32, second: f32) {
         &mut words,
         &mut scratch,
     );
-    told(done, words[0]);
+    told(rt, done, words[0])
 }
 
-pub fn painted_both_ways(made: MadeLegend, value: f32) {
-    painted(made, value);
-    painted_in_lanes(made, value, value);
+pub fn painted_both_ways(rt: &impl Print, made: MadeLegend, value: f32) -> io::Result<()> {
+    painted(rt, made, value)?;
+    painted_in_lanes(rt, made, value, value)
 }
 
 // Writes the word, or why there is none.
-fn told(answer: Answer, word: u32) {
+fn told(rt: &impl Print, answer: Answer, word: u32) -> io::Result<()> {
     match answer {
-        Answer::Refused(why) => say::refused(why),
-        Answer::Done => say::word(word),
+        Answer::Refused(why) => say::refused(rt, why),
+        Answer::Done => say::word(rt, word),
     }
 }
 
 // ---- a categoric record's counts
 
-pub fn key_count(made: MadeLegend) {
+pub fn key_count(rt: &impl Print, made: MadeLegend) -> io::Result<()> {
     let answer = made.answer;
     if let Answer::Refused(why) = answer {
-        say::refused(why);
-        return;
+        return say::refused(rt, why);
     }
     let legend = made.legend;
     let categoric = legend.categoric;
-    say::count(categoric.count);
+    say::count(rt, categoric.count)
 }
 
-pub fn table_words(made: MadeLegend) {
+pub fn table_words(rt: &impl Print, made: MadeLegend) -> io::Result<()> {
     let answer = made.answer;
     if let Answer::Refused(why) = answer {
-        say::refused(why);
-        return;
+        return say::refused(rt, why);
     }
     let legend = made.legend;
     let categoric = legend.categoric;
-    say::count(categoric.lookup_count);
+    say::count(rt, categoric.lookup_count)
 }

@@ -1,34 +1,30 @@
 // What the program writes.
-use libc::STDOUT_FILENO;
 use refusal::Refusal;
+use std::io;
 
 // The number that a line starts with.
-pub fn number(n: u64) {
-    io::print_decimal(STDOUT_FILENO, n);
+pub fn number(rt: &impl Print, n: u64) -> io::Result<()> {
+    print!(rt; "{n}")
 }
 
 // A word, eight digits wide.
-pub fn word(w: u32) {
-    io::write_all(STDOUT_FILENO, b" ");
-    io::print_hex(STDOUT_FILENO, w as u64, 8);
+pub fn word(rt: &impl Print, w: u32) -> io::Result<()> {
+    print!(rt; " {w:08x}")
 }
 
 // A count of a record, written as a word.
-pub fn count(n: usize) {
-    io::write_all(STDOUT_FILENO, b" ");
-    io::print_hex(STDOUT_FILENO, n as u64, 8);
+pub fn count(rt: &impl Print, n: usize) -> io::Result<()> {
+    print!(rt; " {n:08x}")
 }
 
-pub fn refused(why: Refusal) {
-    io::write_all(STDOUT_FILENO, b" refused ");
-    io::print_decimal(STDOUT_FILENO, why.number() as u64);
+pub fn refused(rt: &impl Print, why: Refusal) -> io::Result<()> {
+    print!(rt; " refused {}", why.number())
 }
 
-pub fn line_end() {
-    io::write_all(STDOUT_FILENO, b"\n");
+pub fn line_end(rt: &impl Print) -> io::Result<()> {
+    println!(rt)
 }
 
-pub fn examples(n: u64) {
-    number(n);
-    io::write_all(STDOUT_FILENO, b" examples\n");
+pub fn examples(rt: &impl Print, n: u64) -> io::Result<()> {
+    println!(rt; "{n} examples")
 }
