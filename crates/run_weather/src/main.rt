@@ -10,48 +10,56 @@ mod say;
 mod scale;
 
 use field::Field;
+use legend::Legend;
 use legend_builders::MadeLegend;
 use refusal::Answer;
+use std::rt::Files;
+use std::{fs, io};
 
 // One map: painted, compared, written and told of.
-fn show(name: &[u8], made: MadeLegend, field: Field) {
+fn show<R: Files + Print + Eprint>(
+    rt: &R,
+    name: &str,
+    made: MadeLegend,
+    field: Field,
+) -> io::Result<()> {
     let answer = made.answer;
     if let Answer::Refused(_) = answer {
-        say::answer(answer);
-        return;
+        return say::answer(rt, answer);
     }
-    let fd = os::open_overwrite(name);
-    if fd < 0 {
-        os::fail(name);
-        return;
+    match draw(rt, name, made.legend, field) {
+        Ok(agree) => say::map(rt, name, agree),
+        Err(error) => say::unwritten(rt, name, error),
     }
-    let legend = made.legend;
-    let drawn = map::rows(png::begin(fd), legend, field);
-    let picture = drawn.picture;
-    let written = png::end(map::key(picture, legend, legends::scale(field)));
-    libc::close(fd);
-    if !written {
-        os::fail(name);
-        return;
-    }
-    say::map(name, drawn.agree);
 }
 
-fn main() {
-    say::text(b"two fields of 256 by 160 samples\n");
+// Writes a map with its key, and answers whether its paintings agree.
+fn draw<R: Files + Print>(rt: &R, name: &str, legend: Legend, field: Field) -> io::Result<bool> {
+    let file = fs::create(rt, name)?;
+    let drawn = map::rows(rt, png::begin(file)?, legend, field)?;
+    let agree = drawn.agree;
+    png::end(map::key(rt, drawn.picture, legend, legends::scale(field))?)?;
+    Ok(agree)
+}
+
+fn main(rt: HostRuntime) -> io::Result<()> {
+    say::text(&rt, "two fields of 256 by 160 samples\n")?;
     show(
-        b"temperature_linear.png",
+        &rt,
+        "temperature_linear.png",
         legends::temperature_linear(),
         Field::Temperature,
-    );
+    )?;
     show(
-        b"temperature_banded.png",
+        &rt,
+        "temperature_banded.png",
         legends::temperature_banded(),
         Field::Temperature,
-    );
+    )?;
     show(
-        b"rain_categoric.png",
+        &rt,
+        "rain_categoric.png",
         legends::rain_categoric(),
         Field::Rain,
-    );
+    )
 }

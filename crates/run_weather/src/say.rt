@@ -1,41 +1,49 @@
-// What the program writes to standard output.
-use libc::STDOUT_FILENO;
+// What the program writes to standard output, and to standard error.
 use refusal::Answer;
+use std::io;
 
-pub fn text(words: &[u8]) {
-    io::write_all(STDOUT_FILENO, words);
+pub fn text(rt: &impl Print, words: &str) -> io::Result<()> {
+    rt.print(words)
 }
 
-fn number(n: u64) {
-    io::print_decimal(STDOUT_FILENO, n);
+fn number(rt: &impl Print, n: u64) -> io::Result<()> {
+    rt.print(n)
 }
 
 // A refusal's number; nothing where nothing is refused.
-pub fn answer(given: Answer) {
+pub fn answer(rt: &impl Print, given: Answer) -> io::Result<()> {
     if let Answer::Refused(why) = given {
-        text(b"refused ");
-        number(why.number() as u64);
-        text(b"\n");
+        text(rt, "refused ")?;
+        number(rt, why.number() as u64)?;
+        text(rt, "\n")?;
     }
+    Ok(())
 }
 
 // The first pixel of a row that two paintings colour differently.
-pub fn differ(x: usize, y: u8, lanes: u64) {
-    text(b"lanes of ");
-    number(lanes);
-    text(b" differ at ");
-    number(x as u64);
-    text(b" ");
-    number(y as u64);
-    text(b"\n");
+pub fn differ(rt: &impl Print, x: usize, y: u8, lanes: u64) -> io::Result<()> {
+    text(rt, "lanes of ")?;
+    number(rt, lanes)?;
+    text(rt, " differ at ")?;
+    number(rt, x as u64)?;
+    text(rt, " ")?;
+    number(rt, y as u64)?;
+    text(rt, "\n")
 }
 
 // A map that was written, and whether its paintings agree.
-pub fn map(name: &[u8], agree: bool) {
-    text(name);
+pub fn map(rt: &impl Print, name: &str, agree: bool) -> io::Result<()> {
+    text(rt, name)?;
     if agree {
-        text(b": written, the same words plainly and in lanes of 4, 8 and 16\n");
-        return;
+        return text(
+            rt,
+            ": written, the same words plainly and in lanes of 4, 8 and 16\n",
+        );
     }
-    text(b": written, and lanes differ as said above\n");
+    text(rt, ": written, and lanes differ as said above\n")
+}
+
+// A map that could not be written, and why, on standard error.
+pub fn unwritten(rt: &impl Eprint, name: &str, error: io::Error) -> io::Result<()> {
+    eprintln!(rt; "{name}: {error}")
 }
