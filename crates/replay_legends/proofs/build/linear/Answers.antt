@@ -1,0 +1,26 @@
+-- `linear` meets its contract. Assumes nothing.
+use mathlib.Core.Path.{◌∙◌}
+use lib.ListN.{get_or}
+use Rattle.replay_legends.proofs.Asking.{prefix_fits, prefix_long, linear-palette, linear_list}
+use borrow.Author.Rules.{rules}
+use Rattle.replay_legends.proofs.build.linear.Goals as goal
+
+pub returns-then-row-lt-FROM_LIST : goal.returns-then-row-lt-FROM_LIST
+returns-then-row-lt-FROM_LIST c =
+    c.create_linear_from_ramp.ensures
+    ∙ linear-palette c.args.row.now c.args.config c.if-row-lt-FROM_LIST.true c.float-start.ensures c.float-end.ensures
+    c.palette_ramp.ensures
+
+pub slice_bounds-list-end : goal.slice_bounds-list-end
+slice_bounds-list-end c =
+    prefix_fits (get_or c.args.row.now 2 0) c.words_at-list.result c.at_most-count.ensures (search rules)
+
+pub slice_bounds-create_linear-end : goal.slice_bounds-create_linear-end
+slice_bounds-create_linear-end c =
+    prefix_long (get_or c.args.row.now 2 0) c.words_at-list.result c.at_most-count.ensures (search rules)
+
+pub returns : goal.returns
+returns c =
+    c.create_linear.ensures
+    ∙ linear_list c.args.row.now c.args.config c.if-row-lt-FROM_LIST.false c.at_most-count.ensures c.words_at-list.ensures
+    c.float-start.ensures c.float-end.ensures

@@ -1,0 +1,14 @@
+-- `table` meets its contract. Assumes nothing.
+use native.Mathlib.Omega.{arith}
+use mathlib.Core.Path.{refl}
+use Rattle.lists.proofs.Padding.{storing_start, storing_turn, storing_end}
+use Rattle.replay_legends.proofs.list.table.Goals as goal
+
+pub loop-i-init : goal.loop-i-init
+loop-i-init c = storing_start
+
+pub loop-i-preserved : goal.loop-i-preserved
+loop-i-preserved c = storing_turn c.loop-i.invariant (omega arith) (omega arith) (refl)
+
+pub returns : goal.returns
+returns c = storing_end c.loop-i.invariant (omega arith)
