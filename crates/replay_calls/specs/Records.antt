@@ -1,5 +1,5 @@
 -- The words of what a legend holds. Definitions only.
-use Rattle.std.specs.Prelude.{Bool, List, [], ◌∷◌, map, ℕ, ◌+◌, ◌*◌, ◌%◌, Float, ℤ, pos, get_or}
+use Rattle.std.specs.Prelude.{List, [], ◌∷◌, map, ℕ, ◌+◌, ◌*◌, ◌%◌, Float, ℤ, pos, get_or}
 use Rattle.std.specs.Float.{nan}
 use mir.Val.{bool_byte}
 use Rattle.lists.specs.Tabulate.{tabulate}
