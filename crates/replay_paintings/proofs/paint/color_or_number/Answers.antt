@@ -1,0 +1,7 @@
+-- `paint::color_or_number` meets its contract. Assumes nothing.
+use mathlib.Core.Path.{sym, ap, ◌∙◌}
+use Rattle.replay_paintings.specs.Paintings.{color_or_number}
+use Rattle.replay_paintings.proofs.paint.color_or_number.Goals as goal
+
+pub returns-in-Refused : goal.returns-in-Refused
+returns-in-Refused c = c.number.ensures ∙ sym (ap color_or_number c.in-Refused.is)
