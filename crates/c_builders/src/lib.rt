@@ -104,10 +104,7 @@ pub fn legend_create_banded_manual_ranges_from_ramp(
 }
 
 // Bands as given. A lent list of structs, so it is proved by hand.
-pub fn legend_create_banded_as_given(
-    bands: &[LegendBand],
-    settings: LegendSettings,
-) -> LegendMade
+pub fn legend_create_banded_as_given(bands: &[LegendBand], settings: LegendSettings) -> LegendMade
     ensures { result ≡ made_to_c (settings_refusal settings) (banded_with_settings (with_bands_given bands.now) (settings_from_c settings)) }
 {
     bands_made(Banded::new(bands), settings)
