@@ -8,13 +8,13 @@ use Rattle.tally.proofs.Weighing.{weighing_start, weighing_bound, weighing_turn,
 use Rattle.tally.proofs.weigh.Goals as goal
 
 pub loop-i-init : goal.loop-i-init
-loop-i-init c = let a = c.args in weighing_start a.weights.now a.m a.t2 a.number
+loop-i-init c = let a = c.args in weighing_start a.weights.now a.m a.codes a.number
 
 pub offset_bounds-weights-code : goal.offset_bounds-weights-code
 offset_bounds-weights-code c =
     let l = c in
     let a = l.args in
-    let code : get_or a.t2 l.loop-i.i 0 < length a.weights.now = l.requires.1 l.loop-i.i (omega arith) in
+    let code : get_or a.codes l.loop-i.i 0 < length a.weights.now = l.requires.1 l.loop-i.i (omega arith) in
     search rules
 
 pub bounds-weights-code : goal.bounds-weights-code
@@ -24,18 +24,18 @@ pub overflow_add-result : goal.overflow_add-result
 overflow_add-result c =
     let l = c in
     let a = l.args in
-    let long : length a.t2 ≡ 16 = search rules in
-    omega (arith, weighing_bound a.weights.now a.m a.t2 a.number l.loop-i.invariant (omega arith) (omega arith))
+    let long : length a.codes ≡ 16 = search rules in
+    omega (arith, weighing_bound a.weights.now a.m a.codes a.number l.loop-i.invariant (omega arith) (omega arith))
 
 pub loop-i-preserved : goal.loop-i-preserved
 loop-i-preserved c =
     let l = c in
     let a = l.args in
-    let long : length a.t2 ≡ 16 = search rules in
-    weighing_turn a.weights.now a.m a.t2 a.number l.loop-i.invariant (omega arith) (omega arith)
+    let long : length a.codes ≡ 16 = search rules in
+    weighing_turn a.weights.now a.m a.codes a.number l.loop-i.invariant (omega arith) (omega arith)
 
 pub returns : goal.returns
 returns c =
     let l = c in
     let a = l.args in
-    weighing_end a.weights.now a.m a.t2 a.number l.loop-i.invariant (omega arith)
+    weighing_end a.weights.now a.m a.codes a.number l.loop-i.invariant (omega arith)

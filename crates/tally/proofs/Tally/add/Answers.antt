@@ -8,7 +8,7 @@ use Rattle.tally.proofs.Spreading.{spreading_start, spreading_fits, spreading_tu
 use Rattle.tally.proofs.Tally.add.Goals as goal
 
 pub loop-s-init : goal.loop-s-init
-loop-s-init c = let a = c.args in spreading_start a.self.counts a.t2 a.t3 c.requires.1
+loop-s-init c = let a = c.args in spreading_start a.self.counts a.rules a.totals c.requires.1
 
 pub bounds-counts-rule : goal.bounds-counts-rule
 bounds-counts-rule c = let l = c in omega (arith, l.requires.0 l.loop-s.s (omega arith))
@@ -21,30 +21,30 @@ overflow_add-counts c =
     let l = c in
     let a = l.args in
     let long : length a.self.counts ≡ 12 = search rules in
-    let all : length a.t3 ≡ 7 = search rules in
-    let rule = get_or a.t2 l.loop-s.s 0 in
+    let all : length a.totals ≡ 7 = search rules in
+    let rule = get_or a.rules l.loop-s.s 0 in
     record {
-      fits = spreading_fits a.self.counts a.t2 a.t3 l.loop-s.invariant (omega arith) rule
-          (omega (arith, bounds-counts-rule c));
+      fits = spreading_fits a.self.counts a.rules a.totals l.loop-s.invariant (omega arith) rule
+          (omega (arith, c.requires.0 c.loop-s.s (omega arith)));
     }
 
 pub loop-s-preserved : goal.loop-s-preserved
 loop-s-preserved c =
     let l = c in
     let a = l.args in
-    let each : length a.t2 ≡ 7 = search rules in
-    let all : length a.t3 ≡ 7 = search rules in
-    spreading_turn a.self.counts a.t2 a.t3 l.loop-s.invariant (omega arith) (omega arith)
+    let each : length a.rules ≡ 7 = search rules in
+    let all : length a.totals ≡ 7 = search rules in
+    spreading_turn a.self.counts a.rules a.totals l.loop-s.invariant (omega arith) (omega arith)
 
 pub returns : goal.returns
 returns c =
     let l = c in
     let a = l.args in
-    let each : length a.t2 ≡ 7 = search rules in
-    spreading_end a.self.counts a.t2 a.t3 l.loop-s.invariant (omega arith)
+    let each : length a.rules ≡ 7 = search rules in
+    spreading_end a.self.counts a.rules a.totals l.loop-s.invariant (omega arith)
 
 pub offset_bounds-counts-rule-in-loop-s : goal.offset_bounds-counts-rule-in-loop-s
-offset_bounds-counts-rule-in-loop-s c = offset_bounds-counts-rule c
+offset_bounds-counts-rule-in-loop-s c = omega (arith, c.requires.0 c.loop-s.s (omega arith))
 
 pub bounds-counts-rule-in-loop-s : goal.bounds-counts-rule-in-loop-s
-bounds-counts-rule-in-loop-s c = bounds-counts-rule c
+bounds-counts-rule-in-loop-s c = let l = c in omega (arith, l.requires.0 l.loop-s.s (omega arith))
