@@ -18,22 +18,23 @@ pub fn page(repository: &Path) -> String {
     for line in crates.lines().skip(1) {
         if let Some(part) = line.strip_prefix("# ") {
             write!(page, "\n## {}\n", part.trim_end_matches('.')).expect("a string takes it");
-        } else if let Some((name, _)) = line.split_once(':') {
+        } else if let Some(name) = listed(line) {
             page += &section(repository, name);
         }
     }
     page
 }
 
+/// The crate that a line of crates.txt lists.
+fn listed(line: &str) -> Option<&str> {
+    let (name, _) = line.split_once(':').filter(|_| !line.starts_with('#'))?;
+    name.split(' ').next()
+}
+
 /// The definitions that write a heading of docs/RULES.md down: the files of `specs/` whose heads name it.
 fn rules(repository: &Path, crates: &str) -> String {
     let mut files = Vec::new();
-    for name in crates
-        .lines()
-        .filter_map(|line| line.split_once(':'))
-        .map(|(name, _)| name)
-        .filter(|name| !name.starts_with('#'))
-    {
+    for name in crates.lines().filter_map(listed) {
         let folder = repository.join("crates").join(name).join("specs");
         for file in names(&folder).iter().filter(|file| file.ends_with(".antt") && *file != "Lib.antt") {
             files.push((format!("{name}/specs/{file}"), head(&read(&folder.join(file)), "--").join(" ")));
@@ -121,14 +122,14 @@ pub fn functions(source: &str) -> impl Iterator<Item = (String, Vec<Cited>)> + '
             let mut contract = String::new();
             let mut ensures = false;
             while let Some(line) = lines.peek() {
-                if line.trim() == "{" || line.ends_with(" {}") || line.ends_with('}') && !line.contains("⌝ }") {
+                let clause = line.trim_start();
+                if clause == "{" || clause.ends_with(" {}") {
                     break;
                 }
-                ensures |= line.trim_start().starts_with("ensures");
+                ensures = clause.starts_with("ensures ") || ensures && !clause.starts_with("requires ");
                 if ensures {
                     contract += line;
                 }
-                ensures &= !line.contains("⌝ }");
                 lines.next();
             }
             let words: Vec<&str> = contract.split(|c: char| !c.is_alphanumeric() && c != '_' && c != '-').collect();
@@ -141,17 +142,16 @@ pub fn functions(source: &str) -> impl Iterator<Item = (String, Vec<Cited>)> + '
 fn function(line: &str) -> Option<&str> {
     let rest = line.trim_start().strip_prefix("pub ")?;
     let rest = rest.strip_prefix("extern \"C\" ").unwrap_or(rest).strip_prefix("fn ")?;
-    rest.split('(').next()
+    rest.split(['(', '<']).next()
 }
 
 /// What a file's `ghost use` lines bring in of `specs/`, types that the source declares left out.
 fn definitions(source: &str) -> Vec<Cited> {
     let mut definitions = Vec::new();
     for line in source.lines() {
-        let Some(path) = line.strip_prefix("ghost use Rattle·") else { continue };
-        let path = path.trim_end_matches(';').replace("·specs.specs.", ".specs.");
-        let Some((file, list)) = path.split_once(".{") else { continue };
-        if file.contains(".declared.") || !file.contains(".specs.") {
+        let Some(path) = line.strip_prefix("ghost use Rattle.") else { continue };
+        let Some((file, list)) = path.trim_end_matches(';').split_once(".{") else { continue };
+        if file.starts_with("std.") || file.contains(".declared.") || !file.contains(".specs.") {
             continue;
         }
         let file = format!("{}.antt", file.replace('.', "/"));

@@ -75,9 +75,9 @@ mod tests {
 
     #[test]
     fn a_contract_is_read() {
-        let source = "// Halves.\nghost use lib.ListN.{length};\nghost use Rattle·half.specs.Half.{half, whole};\n\nimpl Two {\n    \
-                      pub fn halved(self) -> u32\n        ensures { λ r. ⌜ r\n            ≡ half (length self) ⌝ }\n    {\n        1\n    }\n}\n\n\
-                      fn own() {}\n\npub fn quiet() {}\n";
+        let source = "// Halves.\nghost use Rattle.std.specs.Prelude.{length};\nghost use Rattle.half.specs.Half.{half, whole};\n\nimpl Two {\n    \
+                      pub fn halved(self) -> u32\n        requires { whole self }\n        ensures { result\n            ≡ half (length self) }\n    {\n        \
+                      1\n    }\n}\n\nfn own() {}\n\npub fn quiet() {}\n";
         let functions: Vec<_> = contracts::functions(source).collect();
         assert_eq!(
             functions,
