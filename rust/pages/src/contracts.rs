@@ -120,23 +120,31 @@ pub fn functions(source: &str) -> impl Iterator<Item = (String, Vec<Cited>)> + '
             }
             let Some(name) = function(line) else { continue };
             let mut contract = String::new();
-            let mut ensures = false;
-            while let Some(line) = lines.peek() {
+            // A head with no clause ends on its last line, one with clauses on a line of its own.
+            let (mut clauses, mut ensures) = (false, false);
+            let mut ended = line.ends_with(['{', '}']);
+            while let Some(line) = lines.next_if(|_| !ended) {
                 let clause = line.trim_start();
-                if clause == "{" || clause.ends_with(" {}") {
-                    break;
+                if clause == "{" || !clauses && clause.ends_with(['{', '}']) && !begins(clause) {
+                    ended = true;
+                    continue;
                 }
+                clauses |= begins(clause);
                 ensures = clause.starts_with("ensures ") || ensures && !clause.starts_with("requires ");
                 if ensures {
                     contract += line;
                 }
-                lines.next();
             }
             let words: Vec<&str> = contract.split(|c: char| !c.is_alphanumeric() && c != '_' && c != '-').collect();
             let cited = definitions.iter().filter(|(name, _)| words.contains(&name.as_str())).cloned().collect();
             return Some((format!("{owner}{name}"), cited));
         }
     })
+}
+
+/// Whether a line begins a clause of a contract.
+fn begins(line: &str) -> bool {
+    line.starts_with("requires ") || line.starts_with("ensures ")
 }
 
 fn function(line: &str) -> Option<&str> {

@@ -75,13 +75,16 @@ mod tests {
 
     #[test]
     fn a_contract_is_read() {
-        let source = "// Halves.\nghost use Rattle.std.specs.Prelude.{length};\nghost use Rattle.half.specs.Half.{half, whole};\n\nimpl Two {\n    \
+        let source = "// Halves.\nghost use Rattle.std.specs.Prelude.{length};\nghost use Rattle.half.specs.Half.{half, whole};\n\n\
+                      pub fn bare(\n    x: u32,\n) -> u32 {\n    x\n}\n\npub fn short() -> u32 {\n    1\n}\n\nimpl Two {\n    \
                       pub fn halved(self) -> u32\n        requires { whole self }\n        ensures { result\n            ≡ half (length self) }\n    {\n        \
                       1\n    }\n}\n\nfn own() {}\n\npub fn quiet() {}\n";
         let functions: Vec<_> = contracts::functions(source).collect();
         assert_eq!(
             functions,
             [
+                ("bare".to_owned(), vec![]),
+                ("short".to_owned(), vec![]),
                 ("Two::halved".to_owned(), vec![("half".to_owned(), "half/specs/Half.antt".to_owned())]),
                 ("quiet".to_owned(), vec![])
             ]
