@@ -1,4 +1,4 @@
--- A tally: one count for each rule, by the rules' numbers (docs/RULES.md, "Tallies"). Definitions only.
+-- A tally: one count for each rule, by the rules' numbers. Definitions only.
 use Rattle.std.specs.Prelude.{ℕ, suc, ◌+◌, ◌^◌, Bool, cond, List, [], ◌∷◌, eqb, ltb}
 use Rattle.lists.specs.Each.{each}
 

@@ -1,4 +1,4 @@
-// A tally of samples by the rules that gave them their colours (docs/RULES.md, "Tallies"), and how a painting counts: seven counts in
+// A tally of samples by the rules that gave them their colours, and how a painting counts: seven counts in
 // one number, as its digits in base 512. A sample adds the weight of its slot (`weigh`), the digits go to totals once per block of at
 // most 511 samples (`unpack`), and the totals to the tally once per painting (`add`).
 #![tactic(auto)]
