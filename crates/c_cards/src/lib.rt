@@ -60,6 +60,7 @@ pub fn legend_read_card(card: &[u8]) -> LegendMade
 }
 
 // The title on a card: an exported call cannot return a part of it, so it returns the part's place.
+#[tactic(auto, unfolding(crate::specs::Cards::title_part))]
 pub fn legend_card_title_part(card: &[u8]) -> LegendTitlePart
     ensures { result ≡ title_part (title_of_card card.now) }
 {

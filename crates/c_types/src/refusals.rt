@@ -23,6 +23,7 @@ pub fn settings_refusal(settings: LegendSettings) -> Answer
 }
 
 // A legend: its flags, then its kind.
+#[tactic(auto, unfolding(crate::specs::Refusals::legend_refusal))]
 pub fn legend_refusal(settings: LegendSettings, kind: u32) -> Answer
     ensures { result ≡ legend_refusal settings kind }
 {
@@ -37,6 +38,7 @@ pub fn legend_refusal(settings: LegendSettings, kind: u32) -> Answer
 }
 
 // A legend and the flag of a nodata value.
+#[tactic(auto, unfolding(crate::specs::Refusals::use_refusal))]
 pub fn use_refusal(settings: LegendSettings, kind: u32, given: u32) -> Answer
     ensures { result ≡ use_refusal settings kind given }
 {

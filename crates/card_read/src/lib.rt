@@ -17,16 +17,14 @@ pub fn read(card: &[u8]) -> MadeLegend
     ensures { result ≡ legend_of_card card.now }
 {
     let answer = refusals::read_refusal(card);
-    if let Answer::Refused(_) = answer {
-        return MadeLegend {
-            answer,
-            legend: Legend::empty(),
-        };
-    }
-    MadeLegend {
+    let mut made = MadeLegend {
         answer,
-        legend: values::legend_in(card),
+        legend: Legend::empty(),
+    };
+    if let Answer::Done = answer {
+        values::put_legend(&mut made.legend, card);
     }
+    made
 }
 
 // The title on a card: that part of the card's own bytes, empty where the card is refused.

@@ -1,13 +1,12 @@
--- The writer's refusals one after the other, and what follows where nothing is refused. Assumes nothing.
+-- What follows where the writer refuses nothing. Assumes nothing.
 use Prim.Native.Nat.{ℕ, ◌≤◌}
-use mathlib.Core.Path.{◌≡◌, sym, ap, ◌∙◌}
-use mathlib.Core.Bool.{Bool, true, false, not, ◌||◌}
+use mathlib.Core.Path.{◌≡◌}
+use mathlib.Core.Bool.{not, ◌||◌}
 use borrow.Author.Tests.{ltb-false}
 use lib.Dec.{ltb}
-use Rattle.refusal.specs.declared.Refusal.{Refusal}
 use Rattle.refusal.specs.declared.Refusal.TheVariants.{CountAboveCapacity, CardTooLong}
 use Rattle.refusal.specs.declared.Answer.{Answer}
-use Rattle.refusal.specs.declared.Answer.TheVariants.{Done, Refused}
+use Rattle.refusal.specs.declared.Answer.TheVariants.{Done}
 use Rattle.refusal.specs.Outcome.{refuse_if, first_of}
 use Rattle.refusal.proofs.Outcomes.{passed, first_done}
 use Rattle.legend.specs.declared.Legend.{Legend}
@@ -27,28 +26,6 @@ module _ (title : ℕ) (l : Legend) (capacity : ℕ) where
 
   abbrev ordered : Answer
   ordered = refuse_if (not (in_order l)) CountAboveCapacity bounds
-
-  -- ---- by what the checks answer
-  pub by_stored : {a : Answer} {why : Refusal} → a ≡ stored_refusal l → a ≡ Refused why → a ≡ lengths_refusal title l capacity
-  unfolding lengths_refusal
-  by_stored e f = f ∙ sym (ap (λ (x : Answer). first_of x ordered) (sym e ∙ f))
-
-  module _ (stored : stored_refusal l ≡ Done) where
-    pub by_order : {b : Bool} → b ≡ in_order l → b ≡ false → Refused CountAboveCapacity ≡ lengths_refusal title l capacity
-    unfolding lengths_refusal
-    by_order e f = sym (ap (λ (x : Answer). first_of x ordered) stored ∙ ap (λ (b : Bool). refuse_if (not b) CountAboveCapacity bounds) (sym e ∙ f))
-
-    module _ (order : in_order l ≡ true) where
-      to_bounds : lengths_refusal title l capacity ≡ bounds
-      unfolding lengths_refusal
-      to_bounds = ap (λ (x : Answer). first_of x ordered) stored ∙ ap (λ (b : Bool). refuse_if (not b) CountAboveCapacity bounds) order
-
-      pub by_bounds : {a : Answer} {why : Refusal} → a ≡ bounds_refusal l → a ≡ Refused why → a ≡ lengths_refusal title l capacity
-      by_bounds e f = f ∙ sym (to_bounds ∙ ap (λ (x : Answer). first_of x long) (sym e ∙ f))
-
-      pub by_length : (t : Bool) → bounds_refusal l ≡ Done → (ltb 255 title || ltb capacity (card_length title l)) ≡ t
-          → refuse_if t CardTooLong Done ≡ lengths_refusal title l capacity
-      by_length t e f = sym (to_bounds ∙ ap (λ (x : Answer). first_of x long) e ∙ ap (λ (b : Bool). refuse_if b CardTooLong Done) f)
 
   -- ---- where nothing is refused
   pub nothing_refused : lengths_refusal title l capacity ≡ Done → (stored_refusal l ≡ Done) × (title ≤ 255) × (card_length title l ≤ capacity)

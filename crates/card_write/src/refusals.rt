@@ -11,6 +11,7 @@ use legend::{Legend, LegendKind};
 use refusal::{Answer, Refusal};
 
 // 16; 7; 20, in this order.
+#[tactic(auto, unfolding(crate::specs::forms::Length::lengths_refusal, crate::specs::forms::Length::card_length))]
 pub fn lengths_refusal(legend: Legend, title: usize, capacity: usize) -> Answer
     ensures { result ≡ lengths_refusal title legend capacity }
 {

@@ -125,6 +125,8 @@ module _ (start end : ℤ) where
   unfolding range_keys
   length-range = length-tabulate (whole (range_count start end)) (λ k. start +ℤ pos k)
 
+pub ruleset wide_sums = (low_fits, low_wide, high_fits, high-wide)
+
 -- the keys by a count and a start that the machine holds
 pub keys_are : (start end s e : ℤ) (n : ℕ) → s ≡ start → e ≡ end → n ≡ whole (range_count s e) → tabulate n (λ k. s +ℤ pos k) ≡ range_keys start end
 unfolding range_keys

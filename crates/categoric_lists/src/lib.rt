@@ -30,6 +30,7 @@ pub fn list_keys(values: &[i64]) -> [i64; 256]
 // ---- the keys of a range
 
 // Each sum fits: the start has the other sign.
+#[tactic(auto, using(crate::proofs::Numbers::back, crate::proofs::Ranges::wide_sums))]
 pub fn too_wide(start: i64, end: i64) -> bool
     ensures { result ≡ too_wide start end }
 {
@@ -69,6 +70,7 @@ pub fn key_count(start: i64, end: i64) -> usize
 }
 
 // The keys from `start` on, then zeros.
+#[inline(never)]
 pub fn range_keys(start: i64, count: usize) -> [i64; 256]
     requires { (count ≤ 256) × ((k : ℕ) → k < count → SFits w64 (start +ℤ pos k)) }
     ensures { result ≡ padded (pos 0) 256 (tabulate count (λ k. start +ℤ pos k)) }

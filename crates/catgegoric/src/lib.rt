@@ -7,6 +7,7 @@ ghost use Rattle.lists.specs.Padded.{padded};
 ghost use Rattle.categoric_lists.specs.Keys.{keys_refusal};
 ghost use Rattle.categoric_build.specs.Categories.{categories};
 ghost use Rattle.categoric_build.specs.Table.{table_size, table};
+ghost use Rattle.categoric_build.specs.forms.Insertion.{HoldsCategories};
 ghost use Rattle.catgegoric.specs.Made.{empty_categoric, record_of, made_unless, many_refusal, values_refusal, for_values, for_values_from_ramp, wide_refusal};
 ghost use Rattle.catgegoric.specs.Made.{value_range_refusal, for_value_range, for_value_range_from_ramp, categoric_refusal, categoric_colors};
 
@@ -54,12 +55,13 @@ impl CategoricNumeric {
     {
         let count = values.len();
         let answer = values_refusal(count, colors.len());
-        if let Answer::Refused(_) = answer {
-            return refused(answer);
+        let mut made = refused(answer);
+        if let Answer::Done = answer {
+            let keys = categoric_lists::list_keys(values);
+            let words = colormap::list_colors(colors);
+            create(&mut made, &keys, &words, count);
         }
-        let keys = categoric_lists::list_keys(values);
-        let words = colormap::list_colors(colors);
-        create(&keys, &words, count)
+        made
     }
 
     // The same with the colours of a ramp.
@@ -68,12 +70,13 @@ impl CategoricNumeric {
     {
         let count = values.len();
         let answer = many_refusal(count);
-        if let Answer::Refused(_) = answer {
-            return refused(answer);
+        let mut made = refused(answer);
+        if let Answer::Done = answer {
+            let keys = categoric_lists::list_keys(values);
+            let words = colormap::ramp_colors(cmap, count);
+            create(&mut made, &keys, &words, count);
         }
-        let keys = categoric_lists::list_keys(values);
-        let words = colormap::ramp_colors(cmap, count);
-        create(&keys, &words, count)
+        made
     }
 
     // A category for each whole number of a range, with the colours of a list.
@@ -81,13 +84,14 @@ impl CategoricNumeric {
         ensures { result ≡ for_value_range start end colors.now }
     {
         let answer = value_range_refusal(start, end, colors.len());
-        if let Answer::Refused(_) = answer {
-            return refused(answer);
+        let mut made = refused(answer);
+        if let Answer::Done = answer {
+            let count = categoric_lists::key_count(start, end);
+            let keys = categoric_lists::range_keys(start, count);
+            let words = colormap::list_colors(colors);
+            create(&mut made, &keys, &words, count);
         }
-        let count = categoric_lists::key_count(start, end);
-        let keys = categoric_lists::range_keys(start, count);
-        let words = colormap::list_colors(colors);
-        create(&keys, &words, count)
+        made
     }
 
     // The same with the colours of a ramp.
@@ -95,18 +99,20 @@ impl CategoricNumeric {
         ensures { result ≡ for_value_range_from_ramp start end cmap.now }
     {
         let answer = wide_refusal(start, end);
-        if let Answer::Refused(_) = answer {
-            return refused(answer);
+        let mut made = refused(answer);
+        if let Answer::Done = answer {
+            let count = categoric_lists::key_count(start, end);
+            let keys = categoric_lists::range_keys(start, count);
+            let words = colormap::ramp_colors(cmap, count);
+            create(&mut made, &keys, &words, count);
         }
-        let count = categoric_lists::key_count(start, end);
-        let keys = categoric_lists::range_keys(start, count);
-        let words = colormap::ramp_colors(cmap, count);
-        create(&keys, &words, count)
+        made
     }
 }
 
 // ---- what is refused of values
 
+#[tactic(auto, unfolding(crate::specs::Made::many_refusal, crate::specs::Made::values_refusal))]
 fn values_refusal(values: usize, colors: usize) -> Answer
     ensures { result ≡ values_refusal values colors Done }
 {
@@ -119,6 +125,7 @@ fn values_refusal(values: usize, colors: usize) -> Answer
     Answer::Done
 }
 
+#[tactic(auto, unfolding(crate::specs::Made::many_refusal))]
 fn many_refusal(count: usize) -> Answer
     ensures { result ≡ many_refusal count Done }
 {
@@ -143,6 +150,7 @@ fn value_range_refusal(start: i64, end: i64, colors: usize) -> Answer
     Answer::Refused(Refusal::ColorCountDiffers)
 }
 
+#[tactic(auto, using(categoric_lists::proofs::Numbers::back), unfolding(crate::specs::Made::wide_refusal))]
 fn wide_refusal(start: i64, end: i64) -> Answer
     ensures { result ≡ wide_refusal start end Done }
 {
@@ -166,25 +174,34 @@ fn refused(answer: Answer) -> MadeCategoric
     }
 }
 
-// The record of the first `count` keys with their colours.
-fn create(keys: &[i64; 256], colors: &[u32; 256], count: usize) -> MadeCategoric
-    requires { (count ≤ 256) × (length keys.now ≡ 256) × (length colors.now ≡ 256) }
-    ensures { result ≡ made_unless (keys_refusal (take count keys.now)) (take count keys.now) (take count colors.now) }
+// The record of the first `count` keys with their colours, in an empty one's place.
+#[inline(never)]
+fn create(made: &mut MadeCategoric, keys: &[i64; 256], colors: &[u32; 256], count: usize)
+    requires { (count ≤ 256) × (length keys.now ≡ 256) × (length colors.now ≡ 256) × (made.old.categoric ≡ empty_categoric) }
+    ensures { made.new ≡ made_unless (keys_refusal (take count keys.now)) (take count keys.now) (take count colors.now) }
 {
     let answer = categoric_lists::keys_refusal(keys, count);
+    made.answer = answer;
     if let Answer::Refused(_) = answer {
-        return refused(answer);
+        return;
     }
-    MadeCategoric {
-        answer,
-        categoric: new(keys, colors, count),
-    }
+    fill(&mut made.categoric, keys, colors, count);
+}
+
+// The record of the first `n` keys with their colours.
+fn fill(made: &mut CategoricNumeric, given: &[i64; 256], words: &[u32; 256], n: usize)
+    requires { (n ≤ 256) × (length given.now ≡ 256) × (length words.now ≡ 256) }
+    ensures { made.new ≡ record_of (categories (take n given.now) (take n words.now)) }
+{
+    insert_each(made, given, words, n);
+    add_lookup(made);
 }
 
 // Puts the categories in one after the other.
-fn new(given: &[i64; 256], words: &[u32; 256], n: usize) -> CategoricNumeric
+#[inline(never)]
+fn insert_each(made: &mut CategoricNumeric, given: &[i64; 256], words: &[u32; 256], n: usize)
     requires { (n ≤ 256) × (length given.now ≡ 256) × (length words.now ≡ 256) }
-    ensures { result ≡ record_of (categories (take n given.now) (take n words.now)) }
+    ensures { (made.new.count ≤ 256) × HoldsCategories (categories (take n given.now) (take n words.now)) made.new.keys made.new.colors made.new.count }
 {
     let mut keys = [0i64; 256];
     let mut colors = [0u32; 256];
@@ -194,7 +211,26 @@ fn new(given: &[i64; 256], words: &[u32; 256], n: usize) -> CategoricNumeric
         count = sorted::insert(&mut keys, &mut colors, count, given[i], words[i]);
         i += 1;
     }
-    with_lookup(keys, colors, count)
+    made.keys = keys;
+    made.colors = colors;
+    made.count = count;
+}
+
+// The table of the keys that a record holds.
+#[inline(never)]
+pub fn add_lookup(made: &mut CategoricNumeric)
+    requires { (made.old.count ≤ 256) × (length made.old.keys ≡ 256) }
+    ensures { made.new ≡ record {
+      keys = made.old.keys;
+      colors = made.old.colors;
+      count = made.old.count;
+      lookup = padded 0 513 (table (take made.old.count made.old.keys) (take made.old.count made.old.colors));
+      lookup_count = table_size (take made.old.count made.old.keys);
+    } }
+{
+    let lookup_count = lookup_size(&made.keys, made.count);
+    made.lookup = table::create_fast_lookup(&made.keys, &made.colors, made.count, lookup_count);
+    made.lookup_count = lookup_count;
 }
 
 // The record of some categories, with their table.
@@ -209,17 +245,17 @@ pub fn with_lookup(keys: [i64; 256], colors: [u32; 256], count: usize) -> Catego
     } }
 {
     let lookup_count = lookup_size(&keys, count);
-    let lookup = table::create_fast_lookup(&keys, &colors, count, lookup_count);
     CategoricNumeric {
         keys,
         colors,
         count,
-        lookup,
+        lookup: table::create_fast_lookup(&keys, &colors, count, lookup_count),
         lookup_count,
     }
 }
 
 // How many words the table of some keys has, 0 where they have none.
+#[tactic(auto, using(crate::proofs::Sizes::table_sizes))]
 fn lookup_size(keys: &[i64; 256], count: usize) -> usize
     requires { (count ≤ 256) × (length keys.now ≡ 256) }
     ensures { result ≡ table_size (take count keys.now) }
@@ -240,6 +276,7 @@ fn lookup_size(keys: &[i64; 256], count: usize) -> usize
 // ---- any use of a record
 
 // 16: a stored count above capacity.
+#[tactic(auto, unfolding(crate::specs::Made::categoric_refusal))]
 pub fn categoric_refusal(count: usize, lookup_count: usize) -> Answer
     ensures { result ≡ categoric_refusal count lookup_count }
 {

@@ -69,6 +69,7 @@ pub fn create_for_preset(number: usize) -> MadeRamp
     create(&colors[..count])
 }
 
+#[tactic(auto, unfolding(crate::specs::Made::list_refusal))]
 fn list_refusal(count: usize) -> Answer
     ensures { result ≡ list_refusal count }
 {

@@ -39,6 +39,7 @@ pub fn lane_refusal(
     }
 }
 
+#[tactic(auto, unfolding(crate::specs::Paintings::lane_refusal))]
 fn buffer_refusal(lanes: usize, scratch: usize, raster: usize, out: usize) -> Answer
     ensures { result ≡ lane_refusal Answer.Done lanes scratch raster out }
 {

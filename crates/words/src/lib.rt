@@ -13,6 +13,7 @@ pub fn word(a: u8, b: u8, c: u8, d: u8) -> u32
 }
 
 // The float with these bits, one NaN for all patterns of a NaN.
+#[tactic(auto, using(crate::proofs::Floats::nan_above, crate::proofs::Floats::number_below), unfolding(crate::specs::Values::float_of))]
 pub fn float(word: u32) -> f32
     ensures { result ≡ float_of word }
 {
@@ -65,6 +66,7 @@ pub fn short(word: u32) -> i16
 }
 
 // A whole number in two's complement, of one word.
+#[tactic(auto, unfolding(crate::specs::Values::whole_of))]
 pub fn key(word: u32) -> i64
     ensures { result ≡ whole_of word }
 {

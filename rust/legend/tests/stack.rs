@@ -24,7 +24,6 @@ fn measured() -> (Vec<(String, usize)>, usize) {
 }
 
 #[test]
-#[ignore = "PORTING-LEFT.md: with today's compiler the builders take more"]
 fn less_than_the_header_says() {
     assert!(header().contains("less than 40,000 bytes of stack"));
     let (all, most) = measured();
