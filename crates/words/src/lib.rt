@@ -55,6 +55,7 @@ pub fn byte(word: u32) -> u8
 }
 
 // The low half, in two's complement.
+#[tactic(auto, unfolding(crate::specs::Values::short_of))]
 pub fn short(word: u32) -> i16
     ensures { result ≡ short_of word }
 {
@@ -77,6 +78,7 @@ pub fn key(word: u32) -> i64
 }
 
 // The same of 64 bits, and those bits of a whole number.
+#[tactic(auto, unfolding(crate::specs::Values::signed_of))]
 pub fn signed(bits: u64) -> i64
     ensures { result ≡ signed_of bits }
 {
