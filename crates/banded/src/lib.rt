@@ -142,7 +142,7 @@ impl Banded {
     }
 }
 
-// ---- bands as given: a lent list of structs, so `new` and `with_bands` are proved by hand
+// ---- bands as given: a lent list of structs
 
 // One band more, or the same where the record is full.
 fn with_band(into: Banded, band: LegendBand) -> Banded

@@ -104,7 +104,7 @@ pub fn legend_create_banded_manual_ranges_from_ramp(
     record::made_to_c(refusals::settings_refusal(settings), made)
 }
 
-// Bands as given. A lent list of structs, so it is proved by hand.
+// Bands as given: a lent list of structs.
 pub fn legend_create_banded_as_given(bands: &[LegendBand], settings: LegendSettings) -> LegendMade
     ensures { result ≡ made_to_c (settings_refusal settings) (banded_with_settings (with_bands_given bands.now) (settings_from_c settings)) }
 {
@@ -118,6 +118,8 @@ fn bands_made(given: MadeBanded, settings: LegendSettings) -> LegendMade
     let made = legend_builders::banded_with_settings(given, config);
     record::made_to_c(refusals::settings_refusal(settings), made)
 }
+
+// Categories: not inlined into the exported calls, for the stack (c/stack.c).
 
 #[inline(never)]
 pub fn legend_create_categoric_for_value_list(

@@ -22,7 +22,8 @@ use colormapper::MappingConfig;
 use legend::{Legend, LegendKind};
 use linear::Linear;
 
-// Puts the legend into an empty one's place.
+// Puts the legend into an empty one's place. Neither this nor what reads the record of a kind is inlined: their arrays would add
+// up in one frame.
 #[inline(never)]
 pub fn put_legend(legend: &mut Legend, card: &[u8])
     requires { (well_formed card.now ≡ true) × (legend.old ≡ empty_legend) }

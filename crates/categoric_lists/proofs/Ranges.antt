@@ -125,6 +125,7 @@ module _ (start end : ℤ) where
   unfolding range_keys
   length-range = length-tabulate (whole (range_count start end)) (λ k. start +ℤ pos k)
 
+-- the sums of `too_wide`: that they fit, and what they say
 pub ruleset wide_sums = (low_fits, low_wide, high_fits, high-wide)
 
 -- the keys by a count and a start that the machine holds

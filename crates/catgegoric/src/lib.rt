@@ -174,7 +174,8 @@ fn refused(answer: Answer) -> MadeCategoric
     }
 }
 
-// The record of the first `count` keys with their colours, in an empty one's place.
+// The record of the first `count` keys with their colours, in an empty one's place. Not inlined, nor are `insert_each` and
+// `add_lookup`: their arrays would add up in one frame.
 #[inline(never)]
 fn create(made: &mut MadeCategoric, keys: &[i64; 256], colors: &[u32; 256], count: usize)
     requires { (count ≤ 256) × (length keys.now ≡ 256) × (length colors.now ≡ 256) × (made.old.categoric ≡ empty_categoric) }
@@ -245,11 +246,12 @@ pub fn with_lookup(keys: [i64; 256], colors: [u32; 256], count: usize) -> Catego
     } }
 {
     let lookup_count = lookup_size(&keys, count);
+    let lookup = table::create_fast_lookup(&keys, &colors, count, lookup_count);
     CategoricNumeric {
         keys,
         colors,
         count,
-        lookup: table::create_fast_lookup(&keys, &colors, count, lookup_count),
+        lookup,
         lookup_count,
     }
 }

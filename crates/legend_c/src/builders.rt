@@ -90,7 +90,7 @@ pub extern "C" fn legend_create_banded_manual_ranges_from_ramp(
     c_builders::legend_create_banded_manual_ranges_from_ramp(ramp, ranges, settings)
 }
 
-// Bands as given. A lent list of structs, so it is proved by hand.
+// Bands as given: a lent list of structs.
 #[unsafe(no_mangle)]
 pub extern "C" fn legend_create_banded_as_given(
     bands: &[LegendBand],
