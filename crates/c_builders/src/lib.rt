@@ -21,7 +21,6 @@ use c_records::record::LegendMade;
 use c_types::settings::LegendSettings;
 use c_types::{refusals, settings};
 use colormap::ProcessedColorMap;
-use refusal::Answer;
 
 pub fn legend_create_linear(
     colors: &[u32],
@@ -119,9 +118,6 @@ fn bands_made(given: MadeBanded, settings: LegendSettings) -> LegendMade
     record::made_to_c(refusals::settings_refusal(settings), made)
 }
 
-// Categories: not inlined into the exported calls, for the stack (c/stack.c).
-
-#[inline(never)]
 pub fn legend_create_categoric_for_value_list(
     colors: &[u32],
     values: &[i64],
@@ -130,16 +126,11 @@ pub fn legend_create_categoric_for_value_list(
     ensures { result ≡ made_to_c (settings_refusal settings)
         (categoric_with_settings (for_values values.now colors.now) (settings_from_c settings)) }
 {
-    let first = refusals::settings_refusal(settings);
-    if let Answer::Refused(_) = first {
-        return record::refused_to_c(first);
-    }
     let config = settings::settings_from_c(settings);
     let made = legend_builders::create_categoric_for_value_list(colors, values, config);
-    record::made_to_c(first, made)
+    record::made_to_c(refusals::settings_refusal(settings), made)
 }
 
-#[inline(never)]
 pub fn legend_create_categoric_for_value_list_from_ramp(
     ramp: &[u32; 256],
     values: &[i64],
@@ -148,16 +139,11 @@ pub fn legend_create_categoric_for_value_list_from_ramp(
     ensures { result ≡ made_to_c (settings_refusal settings)
         (categoric_with_settings (for_values_from_ramp values.now ramp.now) (settings_from_c settings)) }
 {
-    let first = refusals::settings_refusal(settings);
-    if let Answer::Refused(_) = first {
-        return record::refused_to_c(first);
-    }
     let config = settings::settings_from_c(settings);
     let made = legend_builders::create_categoric_for_value_list_from_ramp(ramp, values, config);
-    record::made_to_c(first, made)
+    record::made_to_c(refusals::settings_refusal(settings), made)
 }
 
-#[inline(never)]
 pub fn legend_create_categoric_for_value_range(
     colors: &[u32],
     start: i64,
@@ -166,16 +152,11 @@ pub fn legend_create_categoric_for_value_range(
 ) -> LegendMade
     ensures { result ≡ made_to_c (settings_refusal settings) (categoric_with_settings (for_value_range start end colors.now) (settings_from_c settings)) }
 {
-    let first = refusals::settings_refusal(settings);
-    if let Answer::Refused(_) = first {
-        return record::refused_to_c(first);
-    }
     let config = settings::settings_from_c(settings);
     let made = legend_builders::create_categoric_for_value_range(colors, start, end, config);
-    record::made_to_c(first, made)
+    record::made_to_c(refusals::settings_refusal(settings), made)
 }
 
-#[inline(never)]
 pub fn legend_create_categoric_for_value_range_from_ramp(
     ramp: &[u32; 256],
     start: i64,
@@ -185,13 +166,9 @@ pub fn legend_create_categoric_for_value_range_from_ramp(
     ensures { result ≡ made_to_c (settings_refusal settings)
         (categoric_with_settings (for_value_range_from_ramp start end ramp.now) (settings_from_c settings)) }
 {
-    let first = refusals::settings_refusal(settings);
-    if let Answer::Refused(_) = first {
-        return record::refused_to_c(first);
-    }
     let config = settings::settings_from_c(settings);
     let made = legend_builders::create_categoric_for_value_range_from_ramp(
         ramp, start, end, config,
     );
-    record::made_to_c(first, made)
+    record::made_to_c(refusals::settings_refusal(settings), made)
 }

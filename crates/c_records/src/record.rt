@@ -1,7 +1,5 @@
 // A legend as C holds it.
 ghost use Rattle.std.specs.Prelude.{◌≡◌};
-ghost use Rattle.legend.specs.Record.{empty_legend};
-ghost use Rattle.c_types.specs.Answers.{answer_to_c};
 ghost use Rattle.c_records.specs.Records.{legend_from_c, record_to_c, made_to_c};
 
 use banded::Banded;
@@ -52,36 +50,35 @@ pub fn legend_from_c(stored: LegendRecord) -> Legend
 fn record_to_c(made: Legend) -> LegendRecord
     ensures { result ≡ record_to_c made }
 {
+    let kind = made.kind;
+    let linear = made.linear;
+    let banded = made.banded;
+    let categoric = made.categoric;
+    let config = made.mapping_config;
     LegendRecord {
-        kind: made.kind.number(),
-        settings: settings::settings_to_c(made.mapping_config),
-        linear: made.linear,
-        banded: made.banded,
-        categoric: made.categoric,
+        kind: kind.number(),
+        settings: settings::settings_to_c(config),
+        linear,
+        banded,
+        categoric,
     }
 }
 
-// What a builder made. The call's own arguments are refused by `first`, before anything else is.
+// What a builder made. The call's own arguments are refused by `first`, before anything else is. Inlined, for the stack.
 #[inline(always)]
 pub fn made_to_c(first: Answer, made: MadeLegend) -> LegendMade
     ensures { result ≡ made_to_c first made }
 {
-    if let Answer::Refused(_) = first {
-        return refused_to_c(first);
-    }
-    LegendMade {
-        answer: answer::to_c(made.answer),
-        legend: record_to_c(made.legend),
-    }
-}
-
-// The empty legend beside a refusal.
-#[inline(always)]
-pub fn refused_to_c(answer: Answer) -> LegendMade
-    ensures { result ≡ record { answer = answer_to_c answer; legend = record_to_c empty_legend } }
-{
-    LegendMade {
-        answer: answer::to_c(answer),
-        legend: record_to_c(Legend::empty()),
+    let given = made.answer;
+    let legend = made.legend;
+    match first {
+        Answer::Refused(_) => LegendMade {
+            answer: answer::to_c(first),
+            legend: record_to_c(Legend::empty()),
+        },
+        Answer::Done => LegendMade {
+            answer: answer::to_c(given),
+            legend: record_to_c(legend),
+        },
     }
 }

@@ -17,14 +17,16 @@ pub fn read(card: &[u8]) -> MadeLegend
     ensures { result ≡ legend_of_card card.now }
 {
     let answer = refusals::read_refusal(card);
-    let mut made = MadeLegend {
-        answer,
-        legend: Legend::empty(),
-    };
-    if let Answer::Done = answer {
-        values::put_legend(&mut made.legend, card);
+    if let Answer::Refused(_) = answer {
+        return MadeLegend {
+            answer,
+            legend: Legend::empty(),
+        };
     }
-    made
+    MadeLegend {
+        answer,
+        legend: values::legend_in(card),
+    }
 }
 
 // The title on a card: that part of the card's own bytes, empty where the card is refused.

@@ -5,7 +5,6 @@ ghost use Rattle.banded.specs.Record.{banded_of};
 ghost use Rattle.banded_lists.specs.Padded.{padded_bands};
 ghost use Rattle.categoric_build.specs.Categories.{keys_of, colors_of};
 ghost use Rattle.catgegoric.specs.Made.{record_of};
-ghost use Rattle.legend.specs.Record.{empty_legend};
 ghost use Rattle.card_bytes.specs.Numbers.{number_at};
 ghost use Rattle.card_bytes.specs.Entries.{entries_in};
 ghost use Rattle.card_layout.specs.Settings.{settings_in};
@@ -22,29 +21,20 @@ use colormapper::MappingConfig;
 use legend::{Legend, LegendKind};
 use linear::Linear;
 
-// Puts the legend into an empty one's place. Neither this nor what reads the record of a kind is inlined: their arrays would add
-// up in one frame.
-#[inline(never)]
-pub fn put_legend(legend: &mut Legend, card: &[u8])
-    requires { (well_formed card.now ≡ true) × (legend.old ≡ empty_legend) }
-    ensures { legend.new ≡ legend_in card.now }
+pub fn legend_in(card: &[u8]) -> Legend
+    requires { well_formed card.now ≡ true }
+    ensures { result ≡ legend_in card.now }
 {
     let rest = parts::after_title(card);
     let config = settings_in(rest);
     let kind = LegendKind::from_number(u8_at(card, 5) as u32);
     let count = u16_at(rest, 13) as usize;
     let entries = &rest[15..];
-    legend.kind = kind;
-    legend.mapping_config = config;
     match kind {
-        LegendKind::Linear => {
-            legend.linear = linear_in(entries);
-        }
-        LegendKind::Banded => {
-            legend.banded = banded_in(entries, count);
-        }
+        LegendKind::Linear => Legend::with_linear(linear_in(entries), config),
+        LegendKind::Banded => Legend::with_banded(banded_in(entries, count), config),
         LegendKind::CategoricNumeric => {
-            put_categoric(&mut legend.categoric, entries, count);
+            Legend::with_categoric(categoric_in(entries, count), config)
         }
     }
 }
@@ -65,7 +55,6 @@ fn settings_in(rest: &[u8]) -> MappingConfig
 
 // ---- linear
 
-#[inline(never)]
 fn linear_in(entries: &[u8]) -> Linear
     requires { length entries.now ≡ 1032 }
     ensures { result ≡ linear_in entries.now }
@@ -93,7 +82,6 @@ fn ramp_in(colors: &[u8]) -> [u32; 256]
 
 // ---- banded
 
-#[inline(never)]
 fn banded_in(entries: &[u8], count: usize) -> Banded
     requires { (count ≤ 64) × (length entries.now ≡ 12 * count) }
     ensures { result ≡ banded_of (entries_in 12 count band_in entries.now) }
@@ -130,15 +118,13 @@ fn band_at(entries: &[u8], at: usize) -> LegendBand
 
 // ---- categoric
 
-#[inline(never)]
-fn put_categoric(made: &mut CategoricNumeric, entries: &[u8], count: usize)
+fn categoric_in(entries: &[u8], count: usize) -> CategoricNumeric
     requires { (count ≤ 256) × (length entries.now ≡ 12 * count) }
-    ensures { made.new ≡ record_of (entries_in 12 count category_in entries.now) }
+    ensures { result ≡ record_of (entries_in 12 count category_in entries.now) }
 {
-    made.keys = keys_in(entries, count);
-    made.colors = colors_in(entries, count);
-    made.count = count;
-    catgegoric::add_lookup(made);
+    let keys = keys_in(entries, count);
+    let colors = colors_in(entries, count);
+    catgegoric::with_lookup(keys, colors, count)
 }
 
 pub fn keys_in(entries: &[u8], count: usize) -> [i64; 256]

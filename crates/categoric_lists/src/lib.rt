@@ -69,8 +69,7 @@ pub fn key_count(start: i64, end: i64) -> usize
     count as usize
 }
 
-// The keys from `start` on, then zeros. Not inlined: its array would stand in the caller's frame.
-#[inline(never)]
+// The keys from `start` on, then zeros.
 pub fn range_keys(start: i64, count: usize) -> [i64; 256]
     requires { (count ≤ 256) × ((k : ℕ) → k < count → SFits w64 (start +ℤ pos k)) }
     ensures { result ≡ padded (pos 0) 256 (tabulate count (λ k. start +ℤ pos k)) }

@@ -7,7 +7,6 @@ ghost use Rattle.lists.specs.Padded.{padded};
 ghost use Rattle.categoric_lists.specs.Keys.{keys_refusal};
 ghost use Rattle.categoric_build.specs.Categories.{categories};
 ghost use Rattle.categoric_build.specs.Table.{table_size, table};
-ghost use Rattle.categoric_build.specs.forms.Insertion.{HoldsCategories};
 ghost use Rattle.catgegoric.specs.Made.{empty_categoric, record_of, made_unless, many_refusal, values_refusal, for_values, for_values_from_ramp, wide_refusal};
 ghost use Rattle.catgegoric.specs.Made.{value_range_refusal, for_value_range, for_value_range_from_ramp, categoric_refusal, categoric_colors};
 
@@ -50,63 +49,63 @@ impl CategoricNumeric {
     }
 
     // A category for each value, with the colours of a list.
+    #[inline(always)]
     pub fn for_values(values: &[i64], colors: &[u32]) -> MadeCategoric
         ensures { result ≡ for_values values.now colors.now }
     {
         let count = values.len();
         let answer = values_refusal(count, colors.len());
-        let mut made = refused(answer);
-        if let Answer::Done = answer {
-            let keys = categoric_lists::list_keys(values);
-            let words = colormap::list_colors(colors);
-            create(&mut made, &keys, &words, count);
+        if let Answer::Refused(_) = answer {
+            return refused(answer);
         }
-        made
+        let keys = categoric_lists::list_keys(values);
+        let words = colormap::list_colors(colors);
+        create(&keys, &words, count)
     }
 
     // The same with the colours of a ramp.
+    #[inline(always)]
     pub fn for_values_from_ramp(values: &[i64], cmap: &[u32; 256]) -> MadeCategoric
         ensures { result ≡ for_values_from_ramp values.now cmap.now }
     {
         let count = values.len();
         let answer = many_refusal(count);
-        let mut made = refused(answer);
-        if let Answer::Done = answer {
-            let keys = categoric_lists::list_keys(values);
-            let words = colormap::ramp_colors(cmap, count);
-            create(&mut made, &keys, &words, count);
+        if let Answer::Refused(_) = answer {
+            return refused(answer);
         }
-        made
+        let keys = categoric_lists::list_keys(values);
+        let words = colormap::ramp_colors(cmap, count);
+        create(&keys, &words, count)
     }
 
     // A category for each whole number of a range, with the colours of a list.
+    #[inline(always)]
     pub fn for_value_range(start: i64, end: i64, colors: &[u32]) -> MadeCategoric
         ensures { result ≡ for_value_range start end colors.now }
     {
         let answer = value_range_refusal(start, end, colors.len());
-        let mut made = refused(answer);
-        if let Answer::Done = answer {
-            let count = categoric_lists::key_count(start, end);
-            let keys = categoric_lists::range_keys(start, count);
-            let words = colormap::list_colors(colors);
-            create(&mut made, &keys, &words, count);
+        if let Answer::Refused(_) = answer {
+            return refused(answer);
         }
-        made
+        let count = categoric_lists::key_count(start, end);
+        let keys = categoric_lists::range_keys(start, count);
+        let words = colormap::list_colors(colors);
+        create(&keys, &words, count)
     }
 
     // The same with the colours of a ramp.
+    #[inline(always)]
     pub fn for_value_range_from_ramp(start: i64, end: i64, cmap: &[u32; 256]) -> MadeCategoric
         ensures { result ≡ for_value_range_from_ramp start end cmap.now }
     {
         let answer = wide_refusal(start, end);
-        let mut made = refused(answer);
-        if let Answer::Done = answer {
-            let count = categoric_lists::key_count(start, end);
-            let keys = categoric_lists::range_keys(start, count);
-            let words = colormap::ramp_colors(cmap, count);
-            create(&mut made, &keys, &words, count);
+        if let Answer::Refused(_) = answer {
+            return refused(answer);
         }
-        made
+        let count = categoric_lists::key_count(start, end);
+        let keys = categoric_lists::range_keys(start, count);
+        let words = colormap::ramp_colors(cmap, count);
+        create(&keys, &words, count)
     }
 }
 
@@ -163,8 +162,9 @@ fn wide_refusal(start: i64, end: i64) -> Answer
     Answer::Done
 }
 
-// ---- what all builders do once the counts are right
+// ---- what all builders do once the counts are right: inlined, since a record that a call returns has room in each frame
 
+#[inline(always)]
 fn refused(answer: Answer) -> MadeCategoric
     ensures { result ≡ record { answer = answer; categoric = empty_categoric } }
 {
@@ -174,35 +174,27 @@ fn refused(answer: Answer) -> MadeCategoric
     }
 }
 
-// The record of the first `count` keys with their colours, in an empty one's place. Not inlined, nor are `insert_each` and
-// `add_lookup`: their arrays would add up in one frame.
-#[inline(never)]
-fn create(made: &mut MadeCategoric, keys: &[i64; 256], colors: &[u32; 256], count: usize)
-    requires { (count ≤ 256) × (length keys.now ≡ 256) × (length colors.now ≡ 256) × (made.old.categoric ≡ empty_categoric) }
-    ensures { made.new ≡ made_unless (keys_refusal (take count keys.now)) (take count keys.now) (take count colors.now) }
+// The record of the first `count` keys with their colours.
+#[inline(always)]
+fn create(keys: &[i64; 256], colors: &[u32; 256], count: usize) -> MadeCategoric
+    requires { (count ≤ 256) × (length keys.now ≡ 256) × (length colors.now ≡ 256) }
+    ensures { result ≡ made_unless (keys_refusal (take count keys.now)) (take count keys.now) (take count colors.now) }
 {
     let answer = categoric_lists::keys_refusal(keys, count);
-    made.answer = answer;
     if let Answer::Refused(_) = answer {
-        return;
+        return refused(answer);
     }
-    fill(&mut made.categoric, keys, colors, count);
-}
-
-// The record of the first `n` keys with their colours.
-fn fill(made: &mut CategoricNumeric, given: &[i64; 256], words: &[u32; 256], n: usize)
-    requires { (n ≤ 256) × (length given.now ≡ 256) × (length words.now ≡ 256) }
-    ensures { made.new ≡ record_of (categories (take n given.now) (take n words.now)) }
-{
-    insert_each(made, given, words, n);
-    add_lookup(made);
+    MadeCategoric {
+        answer,
+        categoric: new(keys, colors, count),
+    }
 }
 
 // Puts the categories in one after the other.
-#[inline(never)]
-fn insert_each(made: &mut CategoricNumeric, given: &[i64; 256], words: &[u32; 256], n: usize)
+#[inline(always)]
+fn new(given: &[i64; 256], words: &[u32; 256], n: usize) -> CategoricNumeric
     requires { (n ≤ 256) × (length given.now ≡ 256) × (length words.now ≡ 256) }
-    ensures { (made.new.count ≤ 256) × HoldsCategories (categories (take n given.now) (take n words.now)) made.new.keys made.new.colors made.new.count }
+    ensures { result ≡ record_of (categories (take n given.now) (take n words.now)) }
 {
     let mut keys = [0i64; 256];
     let mut colors = [0u32; 256];
@@ -212,29 +204,11 @@ fn insert_each(made: &mut CategoricNumeric, given: &[i64; 256], words: &[u32; 25
         count = sorted::insert(&mut keys, &mut colors, count, given[i], words[i]);
         i += 1;
     }
-    made.keys = keys;
-    made.colors = colors;
-    made.count = count;
-}
-
-// The table of the keys that a record holds.
-#[inline(never)]
-pub fn add_lookup(made: &mut CategoricNumeric)
-    requires { (made.old.count ≤ 256) × (length made.old.keys ≡ 256) }
-    ensures { made.new ≡ record {
-      keys = made.old.keys;
-      colors = made.old.colors;
-      count = made.old.count;
-      lookup = padded 0 513 (table (take made.old.count made.old.keys) (take made.old.count made.old.colors));
-      lookup_count = table_size (take made.old.count made.old.keys);
-    } }
-{
-    let lookup_count = lookup_size(&made.keys, made.count);
-    made.lookup = table::create_fast_lookup(&made.keys, &made.colors, made.count, lookup_count);
-    made.lookup_count = lookup_count;
+    with_lookup(keys, colors, count)
 }
 
 // The record of some categories, with their table.
+#[inline(always)]
 pub fn with_lookup(keys: [i64; 256], colors: [u32; 256], count: usize) -> CategoricNumeric
     requires { count ≤ 256 }
     ensures { result ≡ record {

@@ -3,13 +3,9 @@ use mathlib.Core.Path.{ap, ◌∙◌}
 use Rattle.legend_builders.specs.Building.{categoric_with_settings}
 use Rattle.c_records.specs.Records.{made_to_c}
 use Rattle.c_types.proofs.Naming.{with_both}
-use Rattle.c_builders.proofs.Refusing.{refusing}
 use Rattle.c_builders.proofs.legend_create_categoric_for_value_list.Goals as goal
-
-pub returns-in-Refused : goal.returns-in-Refused
-returns-in-Refused c = refusing _ c.in-Refused.is c.settings_refusal-first.ensures c.refused_to_c.ensures
 
 pub returns : goal.returns
 returns c =
-    with_both made_to_c c.made_to_c.ensures c.settings_refusal-first.ensures
+    with_both made_to_c c.made_to_c.ensures c.settings_refusal.ensures
     (c.create_categoric_for_value_list-made.ensures ∙ ap (categoric_with_settings _) c.settings_from_c-config.ensures)

@@ -5,17 +5,13 @@ use Rattle.c_records.specs.Records.{made_to_c}
 use Rattle.c_types.proofs.Naming.{with_both}
 use Rattle.catgegoric.specs.Made.{for_value_range}
 use Rattle.categoric_lists.proofs.Numbers.{back₂}
-use Rattle.c_builders.proofs.Refusing.{refusing}
 use Rattle.c_builders.proofs.legend_create_categoric_for_value_range.Goals as goal
-
-pub returns-in-Refused : goal.returns-in-Refused
-returns-in-Refused c = refusing _ c.in-Refused.is c.settings_refusal-first.ensures c.refused_to_c.ensures
 
 pub returns : goal.returns
 returns c =
     let s4 = c in
     let s = s4 in
-    with_both made_to_c c.made_to_c.ensures c.settings_refusal-first.ensures
+    with_both made_to_c c.made_to_c.ensures c.settings_refusal.ensures
     (c.create_categoric_for_value_range-made.ensures
     ∙ (λ j. categoric_with_settings (back₂ (λ a b. for_value_range a b s.args.colors.now) s.args.start s.args.end s.ranges.start.sfits
     s.ranges.end.sfits j) (c.settings_from_c-config.ensures j)))

@@ -6,18 +6,14 @@ use Rattle.c_types.proofs.Naming.{with_both}
 use Rattle.catgegoric.specs.Made.{for_value_range_from_ramp}
 use Rattle.categoric_lists.proofs.Numbers.{back₂}
 use borrow.Author.Rules.{rules}
-use Rattle.c_builders.proofs.Refusing.{refusing}
 use Rattle.c_builders.proofs.legend_create_categoric_for_value_range_from_ramp.Goals as goal
 
 pub create_categoric_for_value_range_from_ramp-made-requires : goal.create_categoric_for_value_range_from_ramp-made-requires
 create_categoric_for_value_range_from_ramp-made-requires c = search rules
 
-pub returns-in-Refused : goal.returns-in-Refused
-returns-in-Refused c = refusing _ c.in-Refused.is c.settings_refusal-first.ensures c.refused_to_c.ensures
-
 pub returns : goal.returns
 returns c =
-    let s = c in with_both made_to_c c.made_to_c.ensures c.settings_refusal-first.ensures
+    let s = c in with_both made_to_c c.made_to_c.ensures c.settings_refusal.ensures
     (c.create_categoric_for_value_range_from_ramp-made.ensures
     ∙ (λ j. categoric_with_settings (back₂ (λ a b. for_value_range_from_ramp a b s.args.ramp.now) s.args.start s.args.end s.ranges.start.sfits
     s.ranges.end.sfits j) (c.settings_from_c-config.ensures j)))

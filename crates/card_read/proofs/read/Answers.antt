@@ -7,20 +7,20 @@ use Rattle.card_read.specs.Reading.{legend_of_card}
 use Rattle.card_read.proofs.Told.{not_refused}
 use Rattle.card_read.proofs.read.Goals as goal
 
-pub returns-in_default : goal.returns-in_default
+pub returns-in-Refused : goal.returns-in-Refused
 unfolding legend_of_card
-returns-in_default c =
+returns-in-Refused c =
     let card = c.args.card.now in
     ap₂ (λ x l. record { answer = x; legend = l }) c.read_refusal-answer.ensures
-    (c.empty.ensures ∙ sym (when_refused (legend_in card) empty_legend (sym c.read_refusal-answer.ensures ∙ c.in_default.is)))
+    (c.empty.ensures ∙ sym (when_refused (legend_in card) empty_legend (sym c.read_refusal-answer.ensures ∙ c.in-Refused.is)))
 
-pub put_legend-requires : goal.put_legend-requires
-put_legend-requires c =
-    (not_refused c.args.card.now (sym c.read_refusal-answer.ensures ∙ c.in-Done.is), c.empty.ensures)
+pub legend_in-requires : goal.legend_in-requires
+legend_in-requires c =
+    not_refused c.args.card.now (sym c.read_refusal-answer.ensures ∙ c.in_default.is)
 
-pub returns-in-Done : goal.returns-in-Done
+pub returns : goal.returns
 unfolding legend_of_card
-returns-in-Done c =
+returns c =
     let card = c.args.card.now in
     ap₂ (λ x l. record { answer = x; legend = l }) c.read_refusal-answer.ensures
-    (c.put_legend.ensures ∙ sym (when_done (legend_in card) empty_legend (sym c.read_refusal-answer.ensures ∙ c.in-Done.is)))
+    (c.legend_in.ensures ∙ sym (when_done (legend_in card) empty_legend (sym c.read_refusal-answer.ensures ∙ c.in_default.is)))

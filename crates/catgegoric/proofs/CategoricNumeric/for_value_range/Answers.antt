@@ -40,19 +40,19 @@ module _ (start end : ℤ) (fs : mag start < 2 ^ 63) (fe : mag end < 2 ^ 63) whe
   keys-is {n} {keys} e k =
       k ∙ ap (padded (pos 0) 256) (keys_are start end (to_z w64 (of_z w64 start)) (to_z w64 (of_z w64 end)) n (back start fs) (back end fe) e)
 
-pub returns-in_default : goal.returns-in_default
-returns-in_default c =
+pub returns-in-Refused : goal.returns-in-Refused
+returns-in-Refused c =
     let a = c.args in
     let n = length a.colors.now in
     refused (range_keys a.start a.end) a.colors.now
     (stopped (value_range_refusal a.start a.end n) (range_checks a.start a.end n) (keys_refusal (range_keys a.start a.end))
     (c.value_range_refusal-answer.ensures ∙ back₂ (λ x y. value_range_refusal x y n Done) a.start a.end c.ranges.start.sfits c.ranges.end.sfits)
-    c.in_default.is) c.in_default.is c.refused-made.ensures
+    c.in-Refused.is) c.in-Refused.is c.refused.ensures
 
 pub key_count-count-requires : goal.key_count-count-requires
 key_count-count-requires c =
     let a = c.args in
-    let h = clear a.start a.end c.ranges.start.sfits c.ranges.end.sfits a.colors.now c.value_range_refusal-answer.ensures c.in-Done.is in
+    let h = clear a.start a.end c.ranges.start.sfits c.ranges.end.sfits a.colors.now c.value_range_refusal-answer.ensures c.in_default.is in
     back₂ too_wide a.start a.end c.ranges.start.sfits c.ranges.end.sfits
     ∙ wide-narrow a.start a.end (range-wide a.start a.end (length a.colors.now) h)
 
@@ -61,7 +61,7 @@ range_keys-keys-requires c =
     let a = c.args in
     let fs = c.ranges.start.sfits in
     let fe = c.ranges.end.sfits in
-    let h = clear a.start a.end fs fe a.colors.now c.value_range_refusal-answer.ensures c.in-Done.is in
+    let h = clear a.start a.end fs fe a.colors.now c.value_range_refusal-answer.ensures c.in_default.is in
     let e = count-is a.start a.end fs fe c.key_count-count.ensures in (
       count-few a.start a.end fs fe a.colors.now h c.key_count-count.ensures,
       λ k h. record {
@@ -74,7 +74,7 @@ list_colors-words-requires c =
     let a = c.args in
     let fs = c.ranges.start.sfits in
     let fe = c.ranges.end.sfits in
-    let h = clear a.start a.end fs fe a.colors.now c.value_range_refusal-answer.ensures c.in-Done.is in
+    let h = clear a.start a.end fs fe a.colors.now c.value_range_refusal-answer.ensures c.in_default.is in
     let e = count-is a.start a.end fs fe c.key_count-count.ensures in
     let few = count-few a.start a.end fs fe a.colors.now h c.key_count-count.ensures in
     omega (arith, range_match a.start a.end (length a.colors.now) h)
@@ -84,7 +84,7 @@ create-requires c =
     let a = c.args in
     let fs = c.ranges.start.sfits in
     let fe = c.ranges.end.sfits in
-    let h = clear a.start a.end fs fe a.colors.now c.value_range_refusal-answer.ensures c.in-Done.is in
+    let h = clear a.start a.end fs fe a.colors.now c.value_range_refusal-answer.ensures c.in_default.is in
     let e = count-is a.start a.end fs fe c.key_count-count.ensures in
     let few = count-few a.start a.end fs fe a.colors.now h c.key_count-count.ensures in (
       few,
@@ -92,16 +92,15 @@ create-requires c =
           ∙ length-padded (pos 0) 256 (range_keys a.start a.end) (omega (arith, length-range a.start a.end)),
       ap length c.list_colors-words.ensures
           ∙ length-padded 0 256 a.colors.now (omega (arith, range_match a.start a.end (length a.colors.now) h)),
-      ap (λ m. m.categoric) c.refused-made.ensures,
     )
 
-pub returns-in-Done : goal.returns-in-Done
-returns-in-Done c =
+pub returns : goal.returns
+returns c =
     let a = c.args in
     let n = length a.colors.now in
     let fs = c.ranges.start.sfits in
     let fe = c.ranges.end.sfits in
-    let h = clear a.start a.end fs fe a.colors.now c.value_range_refusal-answer.ensures c.in-Done.is in
+    let h = clear a.start a.end fs fe a.colors.now c.value_range_refusal-answer.ensures c.in_default.is in
     let e = count-is a.start a.end fs fe c.key_count-count.ensures in
     let k = keys-is a.start a.end fs fe c.key_count-count.ensures c.range_keys-keys.ensures in
     built (value_range_refusal a.start a.end n) (range_checks a.start a.end n) c.key_count-count.result (range_keys a.start a.end) a.colors.now

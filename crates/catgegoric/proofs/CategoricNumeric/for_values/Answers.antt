@@ -9,25 +9,25 @@ use Rattle.categoric_lists.specs.Keys.{keys_refusal}
 use Rattle.catgegoric.proofs.Making.{values_checks, values_few, values_match, stopped, built, refused, counted_list}
 use Rattle.catgegoric.proofs.CategoricNumeric.for_values.Goals as goal
 
-pub returns-in_default : goal.returns-in_default
-returns-in_default c =
+pub returns-in-Refused : goal.returns-in-Refused
+returns-in-Refused c =
     let s4 = c in
     let s = s4 in
     let v = s.args.values.now in
     let w = s.args.colors.now in
     refused v w (stopped (values_refusal (length v) (length w)) (values_checks (length v) (length w)) (keys_refusal v)
-    c.values_refusal-answer.ensures c.in_default.is) c.in_default.is c.refused-made.ensures
+    c.values_refusal-answer.ensures c.in-Refused.is) c.in-Refused.is c.refused.ensures
 
 pub list_keys-keys-requires : goal.list_keys-keys-requires
 list_keys-keys-requires c =
     let s = c in
-    values_few (length s.args.values.now) (length s.args.colors.now) (sym c.values_refusal-answer.ensures ∙ c.in-Done.is)
+    values_few (length s.args.values.now) (length s.args.colors.now) (sym c.values_refusal-answer.ensures ∙ c.in_default.is)
 
 pub list_colors-words-requires : goal.list_colors-words-requires
 list_colors-words-requires c =
     let s4 = c in
     let s = s4 in
-    let e = sym c.values_refusal-answer.ensures ∙ c.in-Done.is in
+    let e = sym c.values_refusal-answer.ensures ∙ c.in_default.is in
     omega (
       arith,
       values_few (length s.args.values.now) (length s.args.colors.now) e,
@@ -42,24 +42,23 @@ create-requires c =
     let s = s6 in
     let v = s.args.values.now in
     let w = s.args.colors.now in
-    let e = sym s6.values_refusal-answer.ensures ∙ c.in-Done.is in
+    let e = sym s6.values_refusal-answer.ensures ∙ c.in_default.is in
     let few = values_few (length v) (length w) e in (
       few,
       ap length c.list_keys-keys.ensures ∙ length-padded (pos 0) 256 v few,
       ap length c.list_colors-words.ensures
           ∙ length-padded 0 256 w (omega (arith, few, values_match (length v) (length w) e)),
-      ap (λ m. m.categoric) c.refused-made.ensures,
     )
 
-pub returns-in-Done : goal.returns-in-Done
-returns-in-Done c =
+pub returns : goal.returns
+returns c =
     let s4 = c in
     let s5 = s4 in
     let s7 = s5 in
     let s = s7 in
     let v = s.args.values.now in
     let w = s.args.colors.now in
-    let e = sym s7.values_refusal-answer.ensures ∙ s5.in-Done.is in
+    let e = sym s7.values_refusal-answer.ensures ∙ s5.in_default.is in
     built (values_refusal (length v) (length w)) (values_checks (length v) (length w)) (length v) v w c.list_keys-keys.result
     c.list_colors-words.result e (counted_list (pos 0) 256 (length v) v refl c.list_keys-keys.ensures)
     (counted_list 0 256 (length v) w (values_match (length v) (length w) e) c.list_colors-words.ensures) c.create.ensures

@@ -2,7 +2,7 @@ use Prim.Native.Nat.{◌-◌, ◌≤◌}
 use lib.ListN.{take}
 use Rattle.categoric_build.specs.Categories.{inserted_up_to}
 use Rattle.categoric_build.specs.forms.Insertion.{HoldsCategories}
-use Rattle.catgegoric.proofs.insert_each.Given as goal
+use Rattle.catgegoric.proofs.new.Given as goal
 
 abbrev pub invariant-loop-i : goal.invariant-loop-i
 invariant-loop-i l =

@@ -1,5 +1,5 @@
--- `insert_each` meets its contract: the arrays hold what the loop has put in. Assumes nothing.
-use mathlib.Core.Path.{◌≡◌, subst}
+-- `new` meets its contract: the arrays hold what the loop has put in. Assumes nothing.
+use mathlib.Core.Path.{◌≡◌, ap, ◌∙◌}
 use Prim.Native.Nat.{◌+◌}
 use native.Mathlib.Omega.{arith}
 use lib.IntN.{pos}
@@ -7,12 +7,13 @@ use lib.ListN.{length, get_or, take}
 use lib.Seq.{length-take-le}
 use mir.Syntax.{w64}
 use mir.Val.{to_z, of_z}
+use Rattle.catgegoric.specs.Made.{record_of}
 use Rattle.categoric_build.specs.Categories.{inserted_up_to}
-use Rattle.categoric_build.specs.forms.Insertion.{HoldsCategories}
+use Rattle.catgegoric.proofs.Making.{recorded}
 use Rattle.categoric_build.proofs.Inserting.{holds-none, holds_next, length-first_of, keys-long, colors-long}
 use Rattle.categoric_build.proofs.Putting.{holds_put}
 use Rattle.categoric_lists.proofs.Numbers.{back}
-use Rattle.catgegoric.proofs.insert_each.Goals as goal
+use Rattle.catgegoric.proofs.new.Goals as goal
 
 pub loop-i-init : goal.loop-i-init
 unfolding inserted_up_to
@@ -39,8 +40,8 @@ loop-i-preserved c =
 
 pub returns : goal.returns
 returns c =
+    let s = c in
     let l = c.loop-i in
-    let e : l.i ≡ length (take c.args.n c.args.given.now) = omega (arith, length-take-le c.args.n c.args.given.now (omega arith)) in (
-      omega arith,
-      subst (λ m. HoldsCategories (inserted_up_to m (take c.args.n c.args.given.now) (take c.args.n c.args.words.now)) l.keys l.colors l.count) e l.invariant.2,
-    )
+    let e : l.i ≡ length (take s.args.n s.args.given.now) = omega (arith, length-take-le s.args.n s.args.given.now (omega arith)) in
+    c.with_lookup.ensures
+    ∙ recorded l.invariant.2 ∙ ap (λ m. record_of (inserted_up_to m (take s.args.n s.args.given.now) (take s.args.n s.args.words.now))) e
