@@ -1,22 +1,22 @@
 -- The bands of a list of at most 64, one after the other, are the list's record. Assumes nothing.
+use Rattle.std.specs.Prelude.{Ok, Err}
 use mathlib.Core.Path.{◌≡◌, refl, sym, ◌∙◌, ap, ap₂}
-use mathlib.Core.Bool.{Bool, true, false, cond}
+use mathlib.Core.Bool.{Bool, cond}
 use mathlib.Core.List.{List, [], ◌∷◌, ◌++◌, append_assoc, append-nil}
-use Prim.Native.Nat.{ℕ, ◌+◌, ◌≤◌, ◌<◌, min}
+use Prim.Native.Nat.{◌+◌, ◌≤◌, ◌<◌}
 use native.Mathlib.Omega.{arith}
 use lib.Dec.{ltb}
-use lib.ListN.{length, take, set, length-append}
-use lib.Seq.{take-length}
+use lib.ListN.{length, set, length-append}
 use borrow.Author.Tests.{lt-ltb, ltb-false}
 use Rattle.lists.specs.Padded.{padded}
 use Rattle.lists.proofs.Padding.{padded_more}
 use Rattle.refusal.specs.declared.Refusal.TheVariants.{TooManyBands}
-use Rattle.refusal.specs.declared.Answer.TheVariants.{Done}
-use Rattle.refusal.specs.Outcome.{refuse_if}
+use Rattle.refusal.specs.declared.Refusal.{Refusal}
+use Rattle.refusal.proofs.Outcomes.{passed, not_made, made_when}
 use Rattle.banded_columns.specs.declared.LegendBand.{LegendBand}
 use Rattle.banded_lists.specs.Padded.{blank_band}
 use Rattle.banded.specs.declared.Banded.{Banded}
-use Rattle.banded.specs.Record.{banded_of, beside}
+use Rattle.banded.specs.Record.{banded_of, made_banded}
 use Rattle.banded.specs.Given.{given_refusal, with_bands_given}
 use Rattle.banded.specs.forms.OneByOne.{with_band, folded}
 
@@ -33,16 +33,13 @@ all_more xs (b ∷ ys) l =
     ap (λ (x : Banded). folded with_band x ys) (one_more xs b (omega (arith, l))) ∙ all_more (xs ++ (b ∷ [])) ys (omega (arith, l, length-append xs (b ∷ [])))
     ∙ ap banded_of (append_assoc xs (b ∷ []) ys)
 
--- what `new` answers
-pub is-given : (ys : List LegendBand) → beside (given_refusal (length ys)) (folded with_band (banded_of []) (take (min (length ys) 64) ys)) ≡ with_bands_given ys
-unfolding given_refusal beside with_bands_given
-is-given ys = by_test (ltb 64 (length ys)) refl
-  where
-    all : length ys ≤ 64 → take (min (length ys) 64) ys ≡ ys
-    all l = let e : min (length ys) 64 ≡ length ys = omega arith in ap (λ (k : ℕ). take k ys) e ∙ take-length ys
+module _ (bands : List LegendBand) where
+  pub given_refused : {why : Refusal} → given_refusal (length bands) ≡ Err why → with_bands_given bands ≡ Err why
+  unfolding with_bands_given made_banded
+  given_refused e = not_made (banded_of bands) e
 
-    by_test : (t : Bool) → ltb 64 (length ys) ≡ t → beside (refuse_if t TooManyBands Done) (folded with_band (banded_of []) (take (min (length ys) 64) ys))
-        ≡ beside (refuse_if t TooManyBands Done) (banded_of ys)
-    by_test true e = refl
-    by_test false e =
-        ap (beside Done) (ap (folded with_band (banded_of [])) (all (ltb-false 64 (length ys) e)) ∙ all_more [] ys (omega (arith, ltb-false 64 (length ys) e)))
+  pub given_made : {made : Banded} → given_refusal (length bands) ≡ Ok tt → made ≡ folded with_band (banded_of []) bands → with_bands_given bands ≡ Ok made
+  unfolding given_refusal with_bands_given made_banded
+  given_made e h =
+      made_when (banded_of bands) e
+      ∙ ap Ok (sym (h ∙ all_more [] bands (omega (arith, ltb-false 64 (length bands) (passed (ltb 64 (length bands)) TooManyBands (Ok tt) e).0))))

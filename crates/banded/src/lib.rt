@@ -1,9 +1,9 @@
 // The banded legend: its record, its builders, and what the painters need of it (docs/RULES.md, "Banded").
 #![tactic(auto)]
 
-ghost use Rattle.std.specs.Prelude.{◌≡◌, [], ◌≤◌, length, take};
+ghost use Rattle.std.specs.Prelude.{◌≡◌, []};
 ghost use Rattle.colormap.specs.Positions.{ramp_colors};
-ghost use Rattle.banded.specs.Record.{banded_of, counted, beside, banded_refusal};
+ghost use Rattle.banded.specs.Record.{banded_of, counted, banded_refusal};
 ghost use Rattle.banded.specs.Given.{given_refusal, with_bands_given};
 ghost use Rattle.banded.specs.forms.OneByOne.{with_band, folded};
 ghost use Rattle.banded.specs.EqualBands.{with_equal_bands};
@@ -13,7 +13,7 @@ ghost use Rattle.banded.specs.Unmappable.{banded_unmappable};
 use banded_columns::LegendBand;
 use banded_lists::ValueRanges;
 use colormapper::{MappingConfig, UnmappableColors};
-use refusal::{Answer, Refusal};
+use refusal::Refusal;
 
 // The first `count` bands. Builders leave one blank band in the places after them.
 #[repr(C)]
@@ -21,13 +21,6 @@ use refusal::{Answer, Refusal};
 pub struct Banded {
     pub bands: [LegendBand; 64],
     pub count: usize,
-}
-
-// A record that was asked for: the empty one beside a refusal.
-#[derive(Clone, Copy)]
-pub struct MadeBanded {
-    pub answer: Answer,
-    pub banded: Banded,
 }
 
 impl Banded {
@@ -45,100 +38,74 @@ impl Banded {
     }
 
     // Bands as given.
-    pub fn new(bands: &[LegendBand]) -> MadeBanded
+    #[tactic(auto, using(crate::proofs::GivenBands::given_refused, crate::proofs::GivenBands::given_made))]
+    pub fn new(bands: &[LegendBand]) -> Result<Banded, Refusal>
         ensures { result ≡ with_bands_given bands.now }
     {
-        let n = bands.len();
-        given(
-            n,
-            with_bands(Banded::default(), bands, banded_columns::at_most_64(n)),
-        )
+        given_refusal(bands.len())?;
+        Ok(with_bands(Banded::default(), bands))
     }
 
     // Equal bands with the colours of a list.
-    pub fn with_equal_bands(count: usize, start: f32, end: f32, colors: &[u32]) -> MadeBanded
+    #[tactic(auto, using(banded_lists::proofs::Equal::equal_few, banded_lists::proofs::Equal::equal_same, crate::proofs::Equal::equal_refused, crate::proofs::Equal::equal_made))]
+    pub fn with_equal_bands(
+        count: usize,
+        start: f32,
+        end: f32,
+        colors: &[u32],
+    ) -> Result<Banded, Refusal>
         ensures { result ≡ with_equal_bands count start end colors.now }
     {
-        let answer = banded_lists::equal_refusal(count, start, end, colors.len());
-        if let Answer::Refused(_) = answer {
-            return MadeBanded {
-                answer,
-                banded: Banded::default(),
-            };
-        }
-        let bands = banded_lists::equal_bands(count, start, end, colormap::list_colors(colors));
-        MadeBanded {
-            answer,
-            banded: Banded { bands, count },
-        }
+        banded_lists::equal_refusal(count, start, end, colors.len())?;
+        Ok(Banded {
+            bands: banded_lists::equal_bands(count, start, end, colormap::list_colors(colors)),
+            count,
+        })
     }
 
     // Equal bands with the colours of a ramp.
+    // A function beside the list's: a ramp is never refused for its count of colours (9), and its colours are made after the refusals.
+    #[tactic(auto, using(banded_lists::proofs::Equal::equal_few, banded_lists::proofs::Equal::equal_same, crate::proofs::Equal::ramp_count, crate::proofs::Equal::equal_refused, crate::proofs::Equal::equal_made))]
     pub fn with_equal_bands_from_ramp(
         count: usize,
         start: f32,
         end: f32,
         cmap: &[u32; 256],
-    ) -> MadeBanded
+    ) -> Result<Banded, Refusal>
         ensures { result ≡ with_equal_bands count start end (ramp_colors count cmap.now) }
     {
-        let answer = banded_lists::equal_refusal(count, start, end, count);
-        if let Answer::Refused(_) = answer {
-            return MadeBanded {
-                answer,
-                banded: Banded::default(),
-            };
-        }
-        let bands = banded_lists::equal_bands(
+        banded_lists::equal_refusal(count, start, end, count)?;
+        Ok(Banded {
+            bands: banded_lists::equal_bands(count, start, end, colormap::ramp_colors(cmap, count)),
             count,
-            start,
-            end,
-            colormap::ramp_colors(cmap, count),
-        );
-        MadeBanded {
-            answer,
-            banded: Banded { bands, count },
-        }
+        })
     }
 
     // Bands with manual ranges and the colours of a list.
-    pub fn with_manual_ranges(values: ValueRanges, colors: &[u32]) -> MadeBanded
+    #[tactic(auto, using(banded_lists::proofs::Manual::manual_few, banded_lists::proofs::Manual::manual_same, crate::proofs::Manual::manual_refused, crate::proofs::Manual::manual_made))]
+    pub fn with_manual_ranges(values: ValueRanges, colors: &[u32]) -> Result<Banded, Refusal>
         ensures { result ≡ with_manual_ranges values colors.now }
     {
-        let answer = banded_lists::manual_refusal(values, colors.len());
-        if let Answer::Refused(_) = answer {
-            return MadeBanded {
-                answer,
-                banded: Banded::default(),
-            };
-        }
+        banded_lists::manual_refusal(values, colors.len())?;
         let ranges = values.ranges;
         let count = values.count;
-        let bands = banded_lists::range_bands(ranges, count, colormap::list_colors(colors));
-        MadeBanded {
-            answer,
-            banded: Banded { bands, count },
-        }
+        let bands = banded_lists::range_bands(&ranges[..count], colormap::list_colors(colors));
+        Ok(Banded { bands, count })
     }
 
     // Bands with manual ranges and the colours of a ramp.
-    pub fn with_manual_ranges_from_ramp(values: ValueRanges, cmap: &[u32; 256]) -> MadeBanded
+    #[tactic(auto, using(banded_lists::proofs::Manual::manual_few, banded_lists::proofs::Manual::manual_same, crate::proofs::Equal::ramp_count, crate::proofs::Manual::manual_refused, crate::proofs::Manual::manual_made))]
+    pub fn with_manual_ranges_from_ramp(
+        values: ValueRanges,
+        cmap: &[u32; 256],
+    ) -> Result<Banded, Refusal>
         ensures { result ≡ with_manual_ranges values (ramp_colors values.count cmap.now) }
     {
         let count = values.count;
-        let answer = banded_lists::manual_refusal(values, count);
-        if let Answer::Refused(_) = answer {
-            return MadeBanded {
-                answer,
-                banded: Banded::default(),
-            };
-        }
+        banded_lists::manual_refusal(values, count)?;
         let ranges = values.ranges;
-        let bands = banded_lists::range_bands(ranges, count, colormap::ramp_colors(cmap, count));
-        MadeBanded {
-            answer,
-            banded: Banded { bands, count },
-        }
+        let bands = banded_lists::range_bands(&ranges[..count], colormap::ramp_colors(cmap, count));
+        Ok(Banded { bands, count })
     }
 }
 
@@ -157,46 +124,39 @@ fn with_band(into: Banded, band: LegendBand) -> Banded
     out
 }
 
-// The first n bands of a list, one after the other.
-fn with_bands(into: Banded, bands: &[LegendBand], n: usize) -> Banded
-    requires { n ≤ length bands.now }
-    ensures { result ≡ folded with_band into (take n bands.now) }
+// The bands of a list, one after the other.
+#[tactic(auto, using(crate::proofs::Fold::one_more), unfolding(crate::specs::forms::OneByOne::folded))]
+fn with_bands(into: Banded, bands: &[LegendBand]) -> Banded
+    ensures { result ≡ folded with_band into bands.now }
 {
     let mut out = into;
-    let mut i = 0;
-    while i < n {
-        out = with_band(out, bands[i]);
-        i += 1;
+    for band in bands {
+        out = with_band(out, *band);
     }
     out
 }
 
-// The record of the bands, or the empty one where there were more than 64.
-fn given(count: usize, banded: Banded) -> MadeBanded
-    ensures { result ≡ beside (given_refusal count) banded }
+// 8: more than 64 bands.
+#[tactic(auto, unfolding(crate::specs::Given::given_refusal))]
+fn given_refusal(count: usize) -> Result<(), Refusal>
+    ensures { result ≡ given_refusal count }
 {
     if count > 64 {
-        return MadeBanded {
-            answer: Answer::Refused(Refusal::TooManyBands),
-            banded: Banded::default(),
-        };
+        return Err(Refusal::TooManyBands);
     }
-    MadeBanded {
-        answer: Answer::Done,
-        banded,
-    }
+    Ok(())
 }
 
 // ---- using a record
 
 // Whether a record may be used: its stored count is at most 64.
-pub fn banded_refusal(count: usize) -> Answer
+pub fn banded_refusal(count: usize) -> Result<(), Refusal>
     ensures { result ≡ banded_refusal count }
 {
     if count > 64 {
-        return Answer::Refused(Refusal::CountAboveCapacity);
+        return Err(Refusal::CountAboveCapacity);
     }
-    Answer::Done
+    Ok(())
 }
 
 // The settings' colours, with the outer bands' colours where low or high is absent.
@@ -204,9 +164,8 @@ pub fn unmappable_colors(banded: Banded, config: MappingConfig) -> UnmappableCol
     ensures { result ≡ banded_unmappable (counted banded) config }
 {
     let nodata = config.nodata_color;
-    let bands = banded.bands;
-    let count = banded.count;
-    let low = banded_columns::first_color(bands, count, nodata);
-    let high = banded_columns::last_color(bands, count, nodata);
+    let bands = &banded.bands[..banded_columns::at_most_64(banded.count)];
+    let low = banded_columns::first_color(bands, nodata);
+    let high = banded_columns::last_color(bands, nodata);
     colormapper::compute_unmappable_colors(config, low, high)
 }

@@ -1,13 +1,12 @@
--- A loop that takes one field of each band: its array at the end; and the bands again from the three arrays. Assumes nothing.
+-- An array of one field of each band, and the bands again from the three arrays. Assumes nothing.
 use mathlib.Core.Path.{◌≡◌, refl, sym, ap, ◌∙◌}
 use mathlib.Core.List.{List, [], ◌∷◌, map}
-use Prim.Native.Nat.{ℕ, zero, suc, ◌≤◌}
+use Prim.Native.Nat.{ℕ, zero, suc, ◌≤◌, ◌<◌}
 use lib.Ieee.{nan}
 use lib.ListN.{length, get_or, take}
 use lib.Seq.{length-take-le, get_or-take}
 use Rattle.lists.specs.Tabulate.{tabulate}
 use Rattle.lists.proofs.Tabulated.{tabulated}
-use Rattle.lists.proofs.Filling.{Filling, filled}
 use Rattle.banded_columns.specs.declared.LegendBand.{LegendBand}
 use Rattle.banded_columns.proofs.Past.{no_band}
 
@@ -17,9 +16,10 @@ unfolding tabulate
 mapped g z [] = refl
 mapped g z (x ∷ xs) = ap (λ ys. g x ∷ ys) (mapped g z xs)
 
-pub unpacked : {A B : Type 0} (g : A → B) (z : A) (xs : List A) {y : B} {n i : ℕ} {r : List B} → Filling y (λ k. g (get_or xs k z)) n n i r → n ≤ i → length xs
-    ≡ n → r ≡ map g xs
-unpacked g z xs p h e = filled p h ∙ ap (λ m. tabulate m (λ k. g (get_or xs k z))) (sym e) ∙ mapped g z xs
+pub unpacked : {A B : Type 0} (g : A → B) (z : A) (y : B) (xs : List A) {n : ℕ} {r : List B} → length xs ≡ n → length r ≡ n
+    → ((k : ℕ) → k < n → get_or r k y ≡ g (get_or xs k z)) → r ≡ map g xs
+unpacked g z y xs {n} {r} e l each =
+    tabulated y n (λ k. g (get_or xs k z)) r l each ∙ ap (λ m. tabulate m (λ k. g (get_or xs k z))) (sym e) ∙ mapped g z xs
 
 -- the bands again, from the three arrays
 together : (bands : List LegendBand) (k : ℕ)

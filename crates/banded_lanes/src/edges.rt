@@ -35,10 +35,8 @@ pub fn lane_edge_colors(
     ensures { LanesOf 0 lanes (λ k. lane_edge_color first last u (get_or value k nan) (get_or color k 0)) result }
 {
     let mut result = [0u32; 16];
-    let mut i: usize = 0;
-    while i < lanes {
+    for i in 0..lanes {
         result[i] = lane_edge_color(first, last, u, value[i], color[i]);
-        i += 1;
     }
     result
 }

@@ -1,5 +1,5 @@
-// Lists of bands over a chunk of lanes: the colour of each lane (docs/RULES.md, "Banded"). A list comes as in `banded_rule`, with a
-// count of at most 64.
+// Lists of bands over a chunk of lanes: the colour of each lane (docs/RULES.md, "Banded").
+// Arrays hold sixteen lanes and `lanes` says how many count: contracts and must-fail edits speak of the places beyond (edges_beyond_the_count).
 #![tactic(auto)]
 
 pub mod edges;
@@ -9,11 +9,12 @@ ghost use Rattle.std.specs.Float.{nan};
 ghost use Rattle.lists.specs.Lanes.{LanesOf};
 ghost use Rattle.lists.specs.Padded.{padded};
 ghost use Rattle.banded_columns.specs.Band.{holds};
-ghost use Rattle.banded_rule.specs.forms.Columns.{from_columns};
+ghost use Rattle.banded_rule.specs.forms.Columns.{bands_of};
 ghost use Rattle.banded_lanes.specs.LaneRule.{lane_colors};
 ghost use Rattle.banded_lanes.specs.forms.Scanning.{all_below, Scanned};
 
 use banded_columns::LegendBand;
+use banded_rule::Columns;
 use colormapper::UnmappableColors;
 
 // A chunk after the bands: its colours so far, and whether each lane lies in some band.
@@ -27,57 +28,47 @@ pub struct Scan {
 // literal. A painter may call the two phases itself, with a literal, and spare the call.
 pub fn color_for_numeric_value_simd(
     lanes: usize,
-    starts: &[f32; 64],
-    ends: &[f32; 64],
-    colors: &[u32; 64],
-    count: usize,
+    columns: Columns,
     u: UnmappableColors,
     value: [f32; 16],
 ) -> [u32; 16]
-    requires { (lanes ≤ 16) × (count ≤ 64) }
-    ensures { result ≡ padded 0 16 (lane_colors (from_columns starts.now ends.now colors.now count) u (take lanes value)) }
+    requires { lanes ≤ 16 }
+    ensures { result ≡ padded 0 16 (lane_colors (bands_of columns.entry) u (take lanes value)) }
 {
-    if lanes == 4 {
-        let scan = scanned(4, starts, ends, colors, count, u.nodata, value);
-        return apply_lane_edges(4, starts, ends, colors, count, u, value, scan);
+    match lanes {
+        4 => colors_simd::<4>(columns, u, value),
+        8 => colors_simd::<8>(columns, u, value),
+        16 => colors_simd::<16>(columns, u, value),
+        _ => {
+            let scan = scanned(lanes, columns, u.nodata, value);
+            apply_lane_edges(lanes, columns, u, value, scan)
+        }
     }
-    if lanes == 8 {
-        let scan = scanned(8, starts, ends, colors, count, u.nodata, value);
-        return apply_lane_edges(8, starts, ends, colors, count, u, value, scan);
-    }
-    if lanes == 16 {
-        let scan = scanned(16, starts, ends, colors, count, u.nodata, value);
-        return apply_lane_edges(16, starts, ends, colors, count, u, value, scan);
-    }
-    let scan = scanned(lanes, starts, ends, colors, count, u.nodata, value);
-    apply_lane_edges(lanes, starts, ends, colors, count, u, value, scan)
+}
+
+fn colors_simd<const L: usize>(columns: Columns, u: UnmappableColors, value: [f32; 16]) -> [u32; 16]
+    requires { L ≤ 16 }
+    ensures { result ≡ padded 0 16 (lane_colors (bands_of columns.entry) u (take L value)) }
+{
+    let scan = scanned(L, columns, u.nodata, value);
+    apply_lane_edges(L, columns, u, value, scan)
 }
 
 // The bands over a chunk, in order, until each lane lies in some band.
-pub fn scanned(
-    lanes: usize,
-    starts: &[f32; 64],
-    ends: &[f32; 64],
-    colors: &[u32; 64],
-    count: usize,
-    nodata: u32,
-    value: [f32; 16],
-) -> Scan
-    requires { (lanes ≤ 16) × (count ≤ 64) }
-    ensures { Scanned lanes (from_columns starts.now ends.now colors.now count) nodata value result }
+pub fn scanned(lanes: usize, columns: Columns, nodata: u32, value: [f32; 16]) -> Scan
+    requires { lanes ≤ 16 }
+    ensures { Scanned lanes (bands_of columns.entry) nodata value result }
 {
     let mut result = nodata_lanes(lanes, nodata);
     let mut inside = [false; 16];
-    let mut i: usize = 0;
-    while i < count {
-        let band = banded_rule::band_at(starts, ends, colors, i);
+    for i in 0..columns.count {
+        let band = columns.band_at(i);
         if enter(lanes, band, &value, &mut result, &mut inside) {
             return Scan {
                 colors: result,
                 finished: true,
             };
         }
-        i += 1;
     }
     Scan {
         colors: result,
@@ -91,10 +82,8 @@ fn nodata_lanes(lanes: usize, nodata: u32) -> [u32; 16]
     ensures { LanesOf 0 lanes (λ k. nodata) result }
 {
     let mut result = [0u32; 16];
-    let mut i: usize = 0;
-    while i < lanes {
+    for i in 0..lanes {
         result[i] = nodata;
-        i += 1;
     }
     result
 }
@@ -114,14 +103,12 @@ fn enter(
     ensures all_inside { result ≡ all_below lanes (λ k. get_or inside.old k false || holds band (get_or value.now k nan)) }
 {
     let mut all = true;
-    let mut i: usize = 0;
-    while i < lanes {
+    for i in 0..lanes {
         let held = band.holds(value[i]);
         words[i] = select::pick(held, band.color, words[i]);
         let entered = inside[i] | held;
         inside[i] = entered;
         all = all & entered;
-        i += 1;
     }
     all
 }
@@ -129,25 +116,20 @@ fn enter(
 // A chunk that no band finished takes the colours of the edges. The scan is that of the same bands and values.
 pub fn apply_lane_edges(
     lanes: usize,
-    starts: &[f32; 64],
-    ends: &[f32; 64],
-    colors: &[u32; 64],
-    count: usize,
+    columns: Columns,
     u: UnmappableColors,
     value: [f32; 16],
     scan: Scan,
 ) -> [u32; 16]
-    requires { (lanes ≤ 16) × (count ≤ 64) × Scanned lanes (from_columns starts.now ends.now colors.now count) u.nodata value scan }
-    ensures { result ≡ padded 0 16 (lane_colors (from_columns starts.now ends.now colors.now count) u (take lanes value)) }
+    requires { (lanes ≤ 16) × Scanned lanes (bands_of columns) u.nodata value scan }
+    ensures { result ≡ padded 0 16 (lane_colors (bands_of columns.entry) u (take lanes value)) }
 {
     let result = scan.colors;
     if scan.finished {
         return result;
     }
-    if count == 0 {
+    if columns.count == 0 {
         return result;
     }
-    let first = banded_rule::band_at(starts, ends, colors, 0);
-    let last = banded_rule::band_at(starts, ends, colors, count - 1);
-    edges::lane_edge_colors(lanes, first, last, u, value, result)
+    edges::lane_edge_colors(lanes, columns.first(), columns.last(), u, value, result)
 }

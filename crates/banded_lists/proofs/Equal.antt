@@ -1,5 +1,7 @@
 -- Equal bands: what an answer of `Done` says of the count and the colours, how many there are, and that the zeros after the colours are not read. Assumes
 -- nothing.
+use Rattle.std.specs.Prelude.{Ok}
+use Rattle.refusal.specs.Outcome.{Answer, refuse_if}
 use mathlib.Core.Path.{◌≡◌, refl, sym, ap, ◌∙◌}
 use mathlib.Core.Bool.{not}
 use mathlib.Core.List.{List, []}
@@ -14,10 +16,7 @@ use Rattle.lists.specs.Tabulate.{tabulate}
 use Rattle.lists.specs.Padded.{padded}
 use Rattle.lists.proofs.Tabulated.{length-tabulate, get_d_tabulate, tabulated}
 use Rattle.lists.proofs.Padding.{get_or-padded, Storing, storing_turn}
-use Rattle.refusal.specs.declared.Answer.{Answer}
-use Rattle.refusal.specs.declared.Answer.TheVariants.{Done}
 use Rattle.refusal.specs.declared.Refusal.TheVariants.{StartAboveEnd, TooManyBands, ColorCountDiffers}
-use Rattle.refusal.specs.Outcome.{refuse_if}
 use Rattle.refusal.proofs.Outcomes.{passed}
 use Rattle.banded_columns.specs.declared.LegendBand.{LegendBand}
 use Rattle.banded_lists.specs.Padded.{blank_band, padded_bands}
@@ -25,19 +24,19 @@ use Rattle.banded_lists.specs.EqualBands.{band_step, band_start, band_from, equa
 use Rattle.banded_lists.proofs.Storing.{no_bands-stored}
 
 -- a list whose length is not refused is as long as the count
-pub same_count : (given count : ℕ) (rest : Answer) → refuse_if (not (eqb given count)) ColorCountDiffers rest ≡ Done → given ≡ count
+pub same_count : (given count : ℕ) (rest : Answer) → refuse_if (not (eqb given count)) ColorCountDiffers rest ≡ Ok tt → given ≡ count
 same_count given count rest e = eqb-true given count (not-false (eqb given count) (passed (not (eqb given count)) ColorCountDiffers rest e).0)
 
-module _ (count : ℕ) (start end : Float) (given : ℕ) (e : equal_refusal count start end given ≡ Done) where
-  past : refuse_if (ltb 64 count) TooManyBands (refuse_if (not (eqb given count)) ColorCountDiffers Done) ≡ Done
+module _ (count : ℕ) (start end : Float) (given : ℕ) (e : equal_refusal count start end given ≡ Ok tt) where
+  past : refuse_if (ltb 64 count) TooManyBands (refuse_if (not (eqb given count)) ColorCountDiffers (Ok tt)) ≡ Ok tt
   unfolding equal_refusal
-  past = (passed (lt end start) StartAboveEnd (refuse_if (ltb 64 count) TooManyBands (refuse_if (not (eqb given count)) ColorCountDiffers Done)) e).1
+  past = (passed (lt end start) StartAboveEnd (refuse_if (ltb 64 count) TooManyBands (refuse_if (not (eqb given count)) ColorCountDiffers (Ok tt))) e).1
 
   pub equal_few : count ≤ 64
-  equal_few = ltb-false 64 count (passed (ltb 64 count) TooManyBands (refuse_if (not (eqb given count)) ColorCountDiffers Done) past).0
+  equal_few = ltb-false 64 count (passed (ltb 64 count) TooManyBands (refuse_if (not (eqb given count)) ColorCountDiffers (Ok tt)) past).0
 
   pub equal_same : given ≡ count
-  equal_same = same_count given count Done (passed (ltb 64 count) TooManyBands (refuse_if (not (eqb given count)) ColorCountDiffers Done) past).1
+  equal_same = same_count given count (Ok tt) (passed (ltb 64 count) TooManyBands (refuse_if (not (eqb given count)) ColorCountDiffers (Ok tt)) past).1
 
 -- two rules that agree below n
 tabulate-same : {A : Type 0} (z : A) (n : ℕ) (f g : ℕ → A) → ((k : ℕ) → k < n → f k ≡ g k) → tabulate n f ≡ tabulate n g

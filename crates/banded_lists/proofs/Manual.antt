@@ -1,16 +1,19 @@
 -- Manual ranges: what an answer of `Done` says, the first empty range by a search, and bands by their index. Assumes nothing.
-use mathlib.Core.Path.{◌≡◌, refl, sym, ap, ◌∙◌}
-use mathlib.Core.Bool.{true, false, cond}
+use Rattle.std.specs.Prelude.{Ok}
+use mathlib.Core.Path.{◌≡◌, refl, ap}
+use mathlib.Core.Bool.{Bool, true, false, cond, not}
+use Rattle.std.specs.List.{position, position_or_len}
+use Rattle.std.specs.Option.{unwrap_or}
+use Rattle.std.proofs.Common.{Some, None}
 use mathlib.Core.List.{List, [], ◌∷◌, ◌++◌}
-use Prim.Native.Nat.{ℕ, zero, suc, ◌-◌, ◌≤◌, ◌<◌}
+use Prim.Native.Nat.{ℕ, suc, ◌+◌, ◌-◌, ◌≤◌}
 use native.Mathlib.Nat.{le_of_suc-le-suc}
 use native.Mathlib.Omega.{arith}
 use borrow.Author.Tests.{ltb-false}
 use lib.Dec.{ltb}
-use lib.ListN.{length, get_or, take, replicate}
+use lib.ListN.{length, get_or, replicate}
 use Rattle.lists.specs.Tabulate.{tabulate}
 use Rattle.lists.specs.Padded.{padded}
-use Rattle.refusal.specs.declared.Answer.TheVariants.{Done}
 use Rattle.refusal.specs.declared.Refusal.TheVariants.{TooManyBands, EmptyRange}
 use Rattle.refusal.proofs.Outcomes.{passed}
 use Rattle.banded_lists.specs.declared.ValueRange.{ValueRange}
@@ -18,7 +21,7 @@ use Rattle.banded_lists.specs.declared.ValueRanges.{ValueRanges}
 use Rattle.banded_lists.specs.ManualRanges.{ranges_of, is_empty, first_empty, band_of, range_bands, manual_refusal}
 use Rattle.banded_lists.proofs.Equal.{same_count}
 
-module _ (values : ValueRanges) (given : ℕ) (e : manual_refusal values given ≡ Done) where
+module _ (values : ValueRanges) (given : ℕ) (e : manual_refusal values given ≡ Ok tt) where
   pub manual_few : values.count ≤ 64
   unfolding manual_refusal
   manual_few = ltb-false 64 values.count (passed (ltb 64 values.count) TooManyBands _ e).0
@@ -27,38 +30,41 @@ module _ (values : ValueRanges) (given : ℕ) (e : manual_refusal values given �
   unfolding manual_refusal
   manual_same =
       let first = first_empty (ranges_of values) in
-      same_count given values.count Done (passed (ltb first values.count) (EmptyRange first) _ (passed (ltb 64 values.count) TooManyBands _ e).1).1
+      same_count given values.count (Ok tt) (passed (ltb first values.count) (EmptyRange first) _ (passed (ltb 64 values.count) TooManyBands _ e).1).1
 
--- ---- the first empty range: the first i are not, and the next is, or there is none
-pub first_found : (z : ValueRange) (n : ℕ) (rs : List ValueRange) (i : ℕ) → ((k : ℕ) → k < i → is_empty (get_or rs k z) ≡ false) → i < n → n ≤ length rs
-    → is_empty (get_or rs i z) ≡ true → first_empty (take n rs) ≡ i
+-- ---- the first empty range, by a search, or else the end
+first_is : (rs : List ValueRange) → position_or_len is_empty rs ≡ first_empty rs
 unfolding first_empty
-first_found z zero rs i all h g e = absurd (omega arith)
-first_found z (suc n) [] i all h g e = absurd (omega arith)
-first_found z (suc n) (r ∷ rs) zero all h g e = ap (λ b. cond b 0 (suc (first_empty (take n rs)))) e
-first_found z (suc n) (r ∷ rs) (suc i) all h g e =
-    ap (λ b. cond b 0 (suc (first_empty (take n rs)))) (all 0 (omega arith))
-    ∙ ap suc (first_found z n rs i (λ k q. all (suc k) (omega arith)) (le_of_suc-le-suc h) (le_of_suc-le-suc g) e)
+first_is [] = refl
+first_is (r ∷ rs) = go (is_empty r) (first_is rs)
+  where
+    go : (t : Bool) → position_or_len is_empty rs ≡ first_empty rs → cond (not t) (1 + position_or_len is_empty rs) 0 ≡ cond t 0 (suc (first_empty rs))
+    go true e = refl
+    go false e = omega arith
 
-none_found : (z : ValueRange) (n : ℕ) (rs : List ValueRange) → ((k : ℕ) → k < n → is_empty (get_or rs k z) ≡ false) → n ≤ length rs → first_empty (take n rs) ≡ n
+first_≤ : (rs : List ValueRange) → first_empty rs ≤ length rs
 unfolding first_empty
-none_found z zero rs all g = refl
-none_found z (suc n) [] all g = absurd (omega arith)
-none_found z (suc n) (r ∷ rs) all g =
-    ap (λ b. cond b 0 (suc (first_empty (take n rs)))) (all 0 (omega arith)) ∙ ap suc (none_found z n rs (λ k q. all (suc k) (omega arith)) (le_of_suc-le-suc g))
+first_≤ [] = omega arith
+first_≤ (r ∷ rs) = go (is_empty r) (first_≤ rs)
+  where
+    go : (t : Bool) → first_empty rs ≤ length rs → cond t 0 (suc (first_empty rs)) ≤ suc (length rs)
+    go true h = omega arith
+    go false h = omega arith
 
-pub first_none : (z : ValueRange) (n : ℕ) (rs : List ValueRange) (i : ℕ) → ((k : ℕ) → k < i → is_empty (get_or rs k z) ≡ false) → i ≡ n → n ≤ length rs → i
-    ≡ first_empty (take n rs)
-first_none z n rs i all e g = e ∙ sym (none_found z n rs (λ k h. all k (omega arith)) g)
+pub first_found : (rs : List ValueRange) → unwrap_or (position is_empty rs) (length rs) ≡ first_empty rs
+first_found rs = go (ltb (position_or_len is_empty rs) (length rs)) refl
+  where
+    go : (t : Bool) → ltb (position_or_len is_empty rs) (length rs) ≡ t → unwrap_or (cond t (Some (position_or_len is_empty rs)) None) (length rs) ≡ first_empty rs
+    go true e = first_is rs
+    go false e = omega (arith, ltb-false (position_or_len is_empty rs) (length rs) e, first_is rs, first_≤ rs)
 
 -- ---- band k by range k and colour k
-pub range-bands : (z : ValueRange) (n : ℕ) (rs : List ValueRange) (colors : List ℕ) → n ≤ length rs → n ≤ length colors
-    → tabulate n (λ k. band_of (get_or rs k z) (get_or colors k 0)) ≡ range_bands (take n rs) colors
+pub range-bands : (z : ValueRange) (rs : List ValueRange) (colors : List ℕ) → length rs ≤ length colors
+    → tabulate (length rs) (λ k. band_of (get_or rs k z) (get_or colors k 0)) ≡ range_bands rs colors
 unfolding tabulate range_bands
-range-bands z zero rs colors h g = refl
-range-bands z (suc n) [] colors h g = absurd (omega arith)
-range-bands z (suc n) (r ∷ rs) [] h g = absurd (omega arith)
-range-bands z (suc n) (r ∷ rs) (c ∷ cs) h g = ap (λ bs. band_of r c ∷ bs) (range-bands z n rs cs (le_of_suc-le-suc h) (le_of_suc-le-suc g))
+range-bands z [] colors h = refl
+range-bands z (r ∷ rs) [] h = absurd (omega arith)
+range-bands z (r ∷ rs) (c ∷ cs) h = ap (λ bs. band_of r c ∷ bs) (range-bands z rs cs (le_of_suc-le-suc h))
 
 pub range_length : (rs : List ValueRange) (colors : List ℕ) → length rs ≤ length colors → length (range_bands rs colors) ≡ length rs
 unfolding range_bands

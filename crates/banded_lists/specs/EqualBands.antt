@@ -1,12 +1,10 @@
 -- Equal bands (docs/RULES.md, "Banded" and "Where each call says no"). Definitions only.
 use Rattle.std.specs.Prelude.{ℕ, zero, suc, not, List, ltb, eqb, pos, Float, get_or}
+use Rattle.refusal.specs.Outcome.{Answer, Done, refuse_if}
 use Rattle.std.specs.Float.{binary32}
 use Rattle.std.specs.Float.Ieee.{add, sub, div, lt, of_int}
 use Rattle.lists.specs.Tabulate.{tabulate}
 use Rattle.refusal.specs.declared.Refusal.TheVariants.{StartAboveEnd, TooManyBands, ColorCountDiffers}
-use Rattle.refusal.specs.declared.Answer.{Answer}
-use Rattle.refusal.specs.declared.Answer.TheVariants.{Done}
-use Rattle.refusal.specs.Outcome.{refuse_if}
 use Rattle.banded_columns.specs.declared.LegendBand.{LegendBand}
 
 -- (end - start) / count

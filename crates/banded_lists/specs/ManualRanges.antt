@@ -1,10 +1,8 @@
 -- Manual ranges (docs/RULES.md, "Where each call says no"). Definitions only.
 use Rattle.std.specs.Prelude.{ℕ, suc, Bool, not, cond, List, [], ◌∷◌, ltb, eqb, take}
+use Rattle.refusal.specs.Outcome.{Answer, Done, refuse_if}
 use Rattle.std.specs.Float.Ieee.{le}
 use Rattle.refusal.specs.declared.Refusal.TheVariants.{TooManyBands, ColorCountDiffers, EmptyRange}
-use Rattle.refusal.specs.declared.Answer.{Answer}
-use Rattle.refusal.specs.declared.Answer.TheVariants.{Done}
-use Rattle.refusal.specs.Outcome.{refuse_if}
 use Rattle.banded_columns.specs.declared.LegendBand.{LegendBand}
 use Rattle.banded_lists.specs.declared.ValueRange.{ValueRange}
 use Rattle.banded_lists.specs.declared.ValueRanges.{ValueRanges}

@@ -1,13 +1,13 @@
 // The bands that a builder stores: equal ones and those of manual ranges, in an array of 64 (docs/RULES.md, "Banded").
 #![tactic(auto)]
 
-ghost use Rattle.std.specs.Prelude.{◌≡◌, [], ◌≤◌, length, take};
+ghost use Rattle.std.specs.Prelude.{◌≡◌, [], ◌≤◌, length};
 ghost use Rattle.banded_lists.specs.Padded.{padded_bands};
 ghost use Rattle.banded_lists.specs.EqualBands.{band_from, equal_bands, equal_refusal};
 ghost use Rattle.banded_lists.specs.ManualRanges.{band_of, range_bands, first_empty, manual_refusal};
 
 use banded_columns::LegendBand;
-use refusal::{Answer, Refusal};
+use refusal::Refusal;
 
 // One manual range, from its start up to its end.
 #[repr(C)]
@@ -37,19 +37,19 @@ pub fn no_bands() -> [LegendBand; 64]
 
 // ---- equal bands
 
-pub fn equal_refusal(count: usize, start: f32, end: f32, given: usize) -> Answer
+pub fn equal_refusal(count: usize, start: f32, end: f32, given: usize) -> Result<(), Refusal>
     ensures { result ≡ equal_refusal count start end given }
 {
     if start > end {
-        return Answer::Refused(Refusal::StartAboveEnd);
+        return Err(Refusal::StartAboveEnd);
     }
     if count > 64 {
-        return Answer::Refused(Refusal::TooManyBands);
+        return Err(Refusal::TooManyBands);
     }
     if given != count {
-        return Answer::Refused(Refusal::ColorCountDiffers);
+        return Err(Refusal::ColorCountDiffers);
     }
-    Answer::Done
+    Ok(())
 }
 
 // The builders refuse a larger count.
@@ -60,11 +60,9 @@ pub fn equal_bands(count: usize, start: f32, end: f32, colors: [u32; 256]) -> [L
     let step = (end - start) / (count as f32);
     let mut position = start;
     let mut bands = no_bands();
-    let mut i: usize = 0;
-    while i < count {
+    for i in 0..count {
         bands[i] = band_from(position, step, colors[i]);
-        position = position + step;
-        i += 1;
+        position += step;
     }
     bands
 }
@@ -81,50 +79,42 @@ fn band_from(position: f32, step: f32, color: u32) -> LegendBand
 
 // ---- manual ranges
 
-pub fn manual_refusal(values: ValueRanges, given: usize) -> Answer
+pub fn manual_refusal(values: ValueRanges, given: usize) -> Result<(), Refusal>
     ensures { result ≡ manual_refusal values given }
 {
     let count = values.count;
     if count > 64 {
-        return Answer::Refused(Refusal::TooManyBands);
+        return Err(Refusal::TooManyBands);
     }
     let ranges = values.ranges;
-    let first = first_empty(ranges, count);
+    let first = first_empty(&ranges[..count]);
     if first < count {
-        return Answer::Refused(Refusal::EmptyRange(first));
+        return Err(Refusal::EmptyRange(first));
     }
     if given != count {
-        return Answer::Refused(Refusal::ColorCountDiffers);
+        return Err(Refusal::ColorCountDiffers);
     }
-    Answer::Done
+    Ok(())
 }
 
-// The index of the first empty range of those counted, or the count.
-fn first_empty(ranges: [ValueRange; 64], count: usize) -> usize
-    requires { count ≤ 64 }
-    ensures { result ≡ first_empty (take count ranges) }
+// The index of the first empty range, or how many there are.
+fn first_empty(ranges: &[ValueRange]) -> usize
+    ensures { result ≡ first_empty ranges.now }
 {
-    let mut i: usize = 0;
-    while i < count {
-        let range = ranges[i];
-        if range.start >= range.end {
-            return i;
-        }
-        i += 1;
-    }
-    i
+    ranges
+        .iter()
+        .position(|range| range.start >= range.end)
+        .unwrap_or(ranges.len())
 }
 
-// The builders refuse a larger count. That the bands are `count` is stated too: a caller does not know that its array has 64 places.
-pub fn range_bands(ranges: [ValueRange; 64], count: usize, colors: [u32; 256]) -> [LegendBand; 64]
-    requires { count ≤ 64 }
-    ensures { (result ≡ padded_bands (range_bands (take count ranges) colors)) × (length (range_bands (take count ranges) colors) ≡ count) }
+// The builders refuse more ranges. That there is a band for each is stated too: a caller does not know that its array has 256 places.
+pub fn range_bands(ranges: &[ValueRange], colors: [u32; 256]) -> [LegendBand; 64]
+    requires { length ranges.now ≤ 64 }
+    ensures { (result ≡ padded_bands (range_bands ranges.now colors)) × (length (range_bands ranges.now colors) ≡ length ranges.now) }
 {
     let mut bands = no_bands();
-    let mut i: usize = 0;
-    while i < count {
-        bands[i] = band_of(ranges[i], colors[i]);
-        i += 1;
+    for (i, range) in ranges.iter().enumerate() {
+        bands[i] = band_of(*range, colors[i]);
     }
     bands
 }

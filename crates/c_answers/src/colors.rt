@@ -4,9 +4,9 @@ ghost use Rattle.c_answers.specs.Colors.{hex_to_c, palette_to_c};
 
 use c_types::answer;
 use c_types::answer::LegendAnswer;
-use color::HexColor;
+use color::Color;
 use palettes::Palette;
-use refusal::Answer;
+use refusal::Refusal;
 
 // A colour's word, 0 beside a refusal.
 #[repr(C)]
@@ -16,7 +16,7 @@ pub struct LegendColor {
     pub color: u32,
 }
 
-// A palette's colours: the first `count`, and 0 from there on.
+// A palette's colours: the first `count`, and 0 from there on. No colours beside a refusal.
 #[repr(C)]
 #[derive(Clone, Copy)]
 pub struct LegendPalette {
@@ -25,29 +25,37 @@ pub struct LegendPalette {
     pub count: usize,
 }
 
-pub fn hex_to_c(found: HexColor) -> LegendColor
+pub fn hex_to_c(found: Result<Color, Refusal>) -> LegendColor
     ensures { result ≡ hex_to_c found }
 {
     match found {
-        HexColor::Made(c) => LegendColor {
-            answer: answer::to_c(Answer::Done),
-            color: c.to_bits(),
+        Ok(color) => LegendColor {
+            answer: answer::to_c(Ok(())),
+            color: color.to_bits(),
         },
-        HexColor::Refused(why) => LegendColor {
-            answer: answer::to_c(Answer::Refused(why)),
+        Err(why) => LegendColor {
+            answer: answer::to_c(Err(why)),
             color: 0,
         },
     }
 }
 
-pub fn palette_to_c(chosen: Palette) -> LegendPalette
+pub fn palette_to_c(chosen: Result<Palette, Refusal>) -> LegendPalette
     ensures { result ≡ palette_to_c chosen }
 {
-    let refused = chosen.answer;
-    let colors = chosen.colors;
-    LegendPalette {
-        answer: answer::to_c(refused),
-        colors,
-        count: chosen.count,
+    match chosen {
+        Ok(palette) => {
+            let colors = palette.colors;
+            LegendPalette {
+                answer: answer::to_c(Ok(())),
+                colors,
+                count: palette.count,
+            }
+        }
+        Err(why) => LegendPalette {
+            answer: answer::to_c(Err(why)),
+            colors: [0u32; 12],
+            count: 0,
+        },
     }
 }

@@ -2,8 +2,6 @@
 ghost use Rattle.std.specs.Prelude.{◌≡◌};
 ghost use Rattle.c_answers.specs.Keys.{key_to_c};
 
-use cast::Truncated;
-
 // A sample cut toward zero: `whole` is 1 where that is an i64, else 0 beside the key 0.
 #[repr(C)]
 #[derive(Clone, Copy)]
@@ -12,11 +10,11 @@ pub struct LegendKey {
     pub whole: u32,
 }
 
-pub fn key_to_c(cut: Truncated) -> LegendKey
+pub fn key_to_c(cut: Option<i64>) -> LegendKey
     ensures { result ≡ key_to_c cut }
 {
     match cut {
-        Truncated::Whole(key) => LegendKey { key, whole: 1 },
-        Truncated::Outside => LegendKey { key: 0, whole: 0 },
+        Some(key) => LegendKey { key, whole: 1 },
+        None => LegendKey { key: 0, whole: 0 },
     }
 }

@@ -4,7 +4,8 @@ ghost use Rattle.c_answers.specs.Ramps.{ramp_to_c};
 
 use c_types::answer;
 use c_types::answer::LegendAnswer;
-use colormap::MadeRamp;
+use colormap::ProcessedColorMap;
+use refusal::Refusal;
 
 // A ramp's 256 colours, all 0 beside a refusal.
 #[repr(C)]
@@ -14,14 +15,20 @@ pub struct LegendRamp {
     pub colors: [u32; 256],
 }
 
-pub fn ramp_to_c(made: MadeRamp) -> LegendRamp
+pub fn ramp_to_c(made: Result<ProcessedColorMap, Refusal>) -> LegendRamp
     ensures { result ≡ ramp_to_c made }
 {
-    let refused = made.answer;
-    let ramp = made.ramp;
-    let colors = ramp.cmap;
-    LegendRamp {
-        answer: answer::to_c(refused),
-        colors,
+    match made {
+        Ok(ramp) => {
+            let colors = ramp.cmap;
+            LegendRamp {
+                answer: answer::to_c(Ok(())),
+                colors,
+            }
+        }
+        Err(why) => LegendRamp {
+            answer: answer::to_c(Err(why)),
+            colors: [0u32; 256],
+        },
     }
 }

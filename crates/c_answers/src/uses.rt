@@ -3,12 +3,10 @@ ghost use Rattle.std.specs.Prelude.{◌≡◌};
 ghost use Rattle.c_answers.specs.Uses.{pixel_to_c, range_to_c, list_to_c};
 
 use crate::colors::LegendColor;
+use banded_lists::ValueRange;
 use c_types::answer;
 use c_types::answer::LegendAnswer;
-use legend_apply::ColorList;
-use legend_pixel::PixelColor;
-use legend_range::TotalRange;
-use refusal::Answer;
+use refusal::Refusal;
 
 // The whole range of a legend's values, 0 and 0 beside a refusal.
 #[repr(C)]
@@ -29,76 +27,58 @@ pub struct LegendColorList {
 
 // A call's own arguments are refused by `first`, before anything else is.
 
-fn pixel_or_refusal(pixel: PixelColor) -> LegendColor
-    ensures { result ≡ pixel_to_c Answer.Done pixel }
-{
-    match pixel {
-        PixelColor::Color(color) => LegendColor {
-            answer: answer::to_c(Answer::Done),
-            color,
-        },
-        PixelColor::Refused(why) => LegendColor {
-            answer: answer::to_c(Answer::Refused(why)),
-            color: 0,
-        },
-    }
-}
-
-pub fn pixel_to_c(first: Answer, pixel: PixelColor) -> LegendColor
+#[tactic(auto, unfolding(crate::specs::Uses::pixel_to_c))]
+pub fn pixel_to_c(first: Result<(), Refusal>, pixel: Result<u32, Refusal>) -> LegendColor
     ensures { result ≡ pixel_to_c first pixel }
 {
-    match first {
-        Answer::Refused(_) => LegendColor {
-            answer: answer::to_c(first),
+    match first.and(pixel) {
+        Ok(color) => LegendColor {
+            answer: answer::to_c(Ok(())),
+            color,
+        },
+        Err(why) => LegendColor {
+            answer: answer::to_c(Err(why)),
             color: 0,
         },
-        Answer::Done => pixel_or_refusal(pixel),
     }
 }
 
-fn range_or_refusal(range: TotalRange) -> LegendValueRange
-    ensures { result ≡ range_to_c Answer.Done range }
+#[tactic(auto, unfolding(crate::specs::Uses::range_to_c))]
+pub fn range_to_c(
+    first: Result<(), Refusal>,
+    range: Result<ValueRange, Refusal>,
+) -> LegendValueRange
+    ensures { result ≡ range_to_c first range }
 {
-    match range {
-        TotalRange::Range(found) => LegendValueRange {
-            answer: answer::to_c(Answer::Done),
+    match first.and(range) {
+        Ok(found) => LegendValueRange {
+            answer: answer::to_c(Ok(())),
             start: found.start,
             end: found.end,
         },
-        TotalRange::Refused(why) => LegendValueRange {
-            answer: answer::to_c(Answer::Refused(why)),
+        Err(why) => LegendValueRange {
+            answer: answer::to_c(Err(why)),
             start: 0.0,
             end: 0.0,
         },
     }
 }
 
-pub fn range_to_c(first: Answer, range: TotalRange) -> LegendValueRange
-    ensures { result ≡ range_to_c first range }
-{
-    match first {
-        Answer::Refused(_) => LegendValueRange {
-            answer: answer::to_c(first),
-            start: 0.0,
-            end: 0.0,
-        },
-        Answer::Done => range_or_refusal(range),
-    }
-}
-
-pub fn list_to_c(first: Answer, list: ColorList) -> LegendColorList
+#[tactic(auto, unfolding(crate::specs::Uses::list_to_c))]
+pub fn list_to_c(first: Result<(), Refusal>, list: Result<[u32; 256], Refusal>) -> LegendColorList
     ensures { result ≡ list_to_c first list }
 {
-    let given = list.answer;
-    let colors = list.colors;
-    match first {
-        Answer::Refused(_) => LegendColorList {
-            answer: answer::to_c(first),
-            colors: [0u32; 256],
-        },
-        Answer::Done => LegendColorList {
-            answer: answer::to_c(given),
+    match first.and(list) {
+        Ok(colors) => LegendColorList {
+            answer: answer::to_c(Ok(())),
             colors,
         },
+        Err(why) => {
+            let colors = [0u32; 256];
+            LegendColorList {
+                answer: answer::to_c(Err(why)),
+                colors,
+            }
+        }
     }
 }

@@ -13,7 +13,7 @@ ghost use Rattle.c_types.specs.Settings.{settings_from_c};
 ghost use Rattle.c_types.specs.Refusals.{settings_refusal};
 ghost use Rattle.c_records.specs.Records.{made_to_c};
 
-use banded::{Banded, MadeBanded};
+use banded::Banded;
 use banded_columns::LegendBand;
 use banded_lists::ValueRanges;
 use c_records::record;
@@ -21,6 +21,7 @@ use c_records::record::LegendMade;
 use c_types::settings::LegendSettings;
 use c_types::{refusals, settings};
 use colormap::ProcessedColorMap;
+use refusal::Refusal;
 
 pub fn legend_create_linear(
     colors: &[u32],
@@ -110,7 +111,7 @@ pub fn legend_create_banded_as_given(bands: &[LegendBand], settings: LegendSetti
     bands_made(Banded::new(bands), settings)
 }
 
-fn bands_made(given: MadeBanded, settings: LegendSettings) -> LegendMade
+fn bands_made(given: Result<Banded, Refusal>, settings: LegendSettings) -> LegendMade
     ensures { result ≡ made_to_c (settings_refusal settings) (banded_with_settings given (settings_from_c settings)) }
 {
     let config = settings::settings_from_c(settings);

@@ -1,4 +1,6 @@
 -- The part of a card that C is told of is the title. Assumes nothing.
+use Rattle.std.specs.Prelude.{Ok, Err}
+use Rattle.refusal.specs.Outcome.{Answer, if_done}
 use mathlib.Core.Path.{◌≡◌, refl, ap, ◌∙◌}
 use mathlib.Core.Bool.{Bool, true, false, cond}
 use mathlib.Core.List.{List, [], ◌∷◌}
@@ -7,9 +9,6 @@ use native.Mathlib.Omega.{arith}
 use borrow.Author.Tests.{eqb-true}
 use lib.Dec.{eqb}
 use lib.ListN.{length, take, drop}
-use Rattle.refusal.specs.declared.Answer.{Answer}
-use Rattle.refusal.specs.declared.Answer.TheVariants.{Done, Refused}
-use Rattle.refusal.specs.Outcome.{if_done}
 use Rattle.card_layout.specs.Fields.{title_length, title_in}
 use Rattle.card_layout.specs.Refusals.{read_refusal}
 use Rattle.card_read.specs.Reading.{title_of_card}
@@ -37,8 +36,8 @@ module _ (card : List ℕ) where
       ap (λ (b : Bool). take (length (title_in card)) (drop (cond b 0 7) card)) e ∙ take_again (title_length card) (drop 7 card)
 
   of_answer : (a : Answer) → named (if_done a (title_in card) []) ≡ if_done a (title_in card) []
-  of_answer Done = of_accepted (eqb (length (title_in card)) 0) refl
-  of_answer (Refused why) = refl
+  of_answer (Ok _) = of_accepted (eqb (length (title_in card)) 0) refl
+  of_answer (Err why) = refl
 
   pub part_is-title : take (title_part (title_of_card card)).length (drop (title_part (title_of_card card)).offset card) ≡ title_of_card card
   unfolding title_part title_of_card

@@ -1,7 +1,6 @@
 -- What the calls for cards answer to C. Definitions only.
+use Rattle.refusal.specs.Outcome.{Answer, if_done, first_of}
 use Rattle.std.specs.Prelude.{◌≡◌, cond, List, ℕ, eqb, length}
-use Rattle.refusal.specs.declared.Answer.{Answer}
-use Rattle.refusal.specs.Outcome.{if_done, first_of}
 use Rattle.card_bytes.specs.Numbers.{overwritten}
 use Rattle.card_layout.specs.Cards.{card_of}
 use Rattle.card_layout.specs.Refusals.{write_refusal}

@@ -1,4 +1,5 @@
 // Painting in lanes.
+// One function for each type of samples that C passes: must-fail edits take one type alone (lanes_u8_nodata_never_given), which a generic body could not show.
 ghost use Rattle.std.specs.Prelude.{map};
 ghost use Rattle.cast.specs.Samples.{of_u8, of_i16};
 ghost use Rattle.c_types.specs.Samples.{nodata_if};
@@ -9,8 +10,9 @@ use c_records::view;
 use c_records::view::LegendView;
 use c_types::answer::LegendAnswer;
 use c_types::{answer, refusals, samples};
-use refusal::Answer;
+use refusal::Refusal;
 
+#[tactic(auto, using(crate::proofs::Calling::lanes_painted))]
 pub fn legend_view_paint_lanes_f32(
     view: LegendView,
     banded: Banded,
@@ -28,24 +30,20 @@ pub fn legend_view_paint_lanes_f32(
     ensures { LaneOutcome (painter_of_view view banded cmap.now keys.now colors.now lookup.now nodata_given
         (nodata_if nodata_given nodata)) lanes src.now out.old scratch.old result out.new scratch.new }
 {
-    let first = refusals::use_refusal(view.settings, view.kind, nodata_given);
-    if let Answer::Refused(_) = first {
-        return answer::to_c(first);
+    match refusals::use_refusal(view.settings, view.kind, nodata_given) {
+        Ok(()) => answer::to_c(legend_kernel::apply_to_data_kernel(
+            view::view_from_c(view, &banded, cmap, keys, colors, lookup),
+            lanes,
+            src,
+            samples::nodata_if(nodata_given, nodata),
+            out,
+            scratch,
+        )),
+        Err(why) => answer::to_c(Err(why)),
     }
-    answer::to_c(legend_kernel::apply_to_data_kernel(
-        view::view_from_c(view, banded),
-        cmap,
-        keys,
-        colors,
-        lookup,
-        lanes,
-        src,
-        samples::nodata_if(nodata_given, nodata),
-        out,
-        scratch,
-    ))
 }
 
+#[tactic(auto, using(crate::proofs::Calling::lanes_painted))]
 pub fn legend_view_paint_lanes_u8(
     view: LegendView,
     banded: Banded,
@@ -64,24 +62,20 @@ pub fn legend_view_paint_lanes_u8(
         (nodata_if nodata_given (of_u8 nodata))) lanes (map of_u8 src.now) out.old scratch.old result out.new
         scratch.new }
 {
-    let first = refusals::use_refusal(view.settings, view.kind, nodata_given);
-    if let Answer::Refused(_) = first {
-        return answer::to_c(first);
+    match refusals::use_refusal(view.settings, view.kind, nodata_given) {
+        Ok(()) => answer::to_c(legend_kernel::apply_to_data_kernel(
+            view::view_from_c(view, &banded, cmap, keys, colors, lookup),
+            lanes,
+            src,
+            samples::nodata_if(nodata_given, cast::u8_to_f32(nodata)),
+            out,
+            scratch,
+        )),
+        Err(why) => answer::to_c(Err(why)),
     }
-    answer::to_c(legend_kernel::apply_to_data_kernel_u8(
-        view::view_from_c(view, banded),
-        cmap,
-        keys,
-        colors,
-        lookup,
-        lanes,
-        src,
-        samples::nodata_if(nodata_given, cast::u8_to_f32(nodata)),
-        out,
-        scratch,
-    ))
 }
 
+#[tactic(auto, using(crate::proofs::Calling::lanes_painted))]
 pub fn legend_view_paint_lanes_i16(
     view: LegendView,
     banded: Banded,
@@ -100,20 +94,15 @@ pub fn legend_view_paint_lanes_i16(
         (nodata_if nodata_given (of_i16 nodata))) lanes (map of_i16 src.now) out.old scratch.old result out.new
         scratch.new }
 {
-    let first = refusals::use_refusal(view.settings, view.kind, nodata_given);
-    if let Answer::Refused(_) = first {
-        return answer::to_c(first);
+    match refusals::use_refusal(view.settings, view.kind, nodata_given) {
+        Ok(()) => answer::to_c(legend_kernel::apply_to_data_kernel(
+            view::view_from_c(view, &banded, cmap, keys, colors, lookup),
+            lanes,
+            src,
+            samples::nodata_if(nodata_given, cast::i16_to_f32(nodata)),
+            out,
+            scratch,
+        )),
+        Err(why) => answer::to_c(Err(why)),
     }
-    answer::to_c(legend_kernel::apply_to_data_kernel_i16(
-        view::view_from_c(view, banded),
-        cmap,
-        keys,
-        colors,
-        lookup,
-        lanes,
-        src,
-        samples::nodata_if(nodata_given, cast::i16_to_f32(nodata)),
-        out,
-        scratch,
-    ))
 }

@@ -5,7 +5,6 @@ ghost use Rattle.legend_range.specs.ValueRanges.{total_value_range};
 ghost use Rattle.legend_pixel.specs.Values.{color_for_value};
 ghost use Rattle.legend_apply.specs.ColorLists.{color_list};
 ghost use Rattle.c_types.specs.Refusals.{legend_refusal, use_refusal};
-ghost use Rattle.legend_view.specs.Borrowed.{borrowed_legend};
 ghost use Rattle.c_records.specs.Views.{view_from_c};
 ghost use Rattle.c_records.specs.Records.{legend_from_c};
 ghost use Rattle.c_types.specs.Samples.{nodata_if};
@@ -21,6 +20,7 @@ use c_records::{record, view};
 use c_types::{refusals, samples};
 
 // ---- the colour of a sample, by a legend whose arrays are borrowed
+// One function for each type of samples that C passes: must-fail edits take one type alone (color_u8_of_0), which a generic body could not show.
 
 pub fn legend_view_color_for_f32(
     view: LegendView,
@@ -34,15 +34,11 @@ pub fn legend_view_color_for_f32(
     nodata: f32,
 ) -> LegendColor
     ensures { result ≡ pixel_to_c (use_refusal view.settings view.kind nodata_given)
-        (color_for_value (borrowed_legend (view_from_c view banded) cmap.now keys.now colors.now lookup.now)
+        (color_for_value (view_from_c view banded cmap.now keys.now colors.now lookup.now)
         (nodata_if nodata_given nodata) value) }
 {
     let pixel = legend_pixel::color_for_value(
-        view::view_from_c(view, banded),
-        cmap,
-        keys,
-        colors,
-        lookup,
+        view::view_from_c(view, &banded, cmap, keys, colors, lookup),
         value,
         samples::nodata_if(nodata_given, nodata),
     );
@@ -64,15 +60,11 @@ pub fn legend_view_color_for_u8(
     nodata: u8,
 ) -> LegendColor
     ensures { result ≡ pixel_to_c (use_refusal view.settings view.kind nodata_given)
-        (color_for_value (borrowed_legend (view_from_c view banded) cmap.now keys.now colors.now lookup.now)
+        (color_for_value (view_from_c view banded cmap.now keys.now colors.now lookup.now)
         (nodata_if nodata_given (of_u8 nodata)) (of_u8 value)) }
 {
     let pixel = legend_pixel::color_for_value(
-        view::view_from_c(view, banded),
-        cmap,
-        keys,
-        colors,
-        lookup,
+        view::view_from_c(view, &banded, cmap, keys, colors, lookup),
         cast::u8_to_f32(value),
         samples::nodata_if(nodata_given, cast::u8_to_f32(nodata)),
     );
@@ -94,15 +86,11 @@ pub fn legend_view_color_for_i16(
     nodata: i16,
 ) -> LegendColor
     ensures { result ≡ pixel_to_c (use_refusal view.settings view.kind nodata_given)
-        (color_for_value (borrowed_legend (view_from_c view banded) cmap.now keys.now colors.now lookup.now)
+        (color_for_value (view_from_c view banded cmap.now keys.now colors.now lookup.now)
         (nodata_if nodata_given (of_i16 nodata)) (of_i16 value)) }
 {
     let pixel = legend_pixel::color_for_value(
-        view::view_from_c(view, banded),
-        cmap,
-        keys,
-        colors,
-        lookup,
+        view::view_from_c(view, &banded, cmap, keys, colors, lookup),
         cast::i16_to_f32(value),
         samples::nodata_if(nodata_given, cast::i16_to_f32(nodata)),
     );
@@ -117,7 +105,7 @@ pub fn legend_view_color_for_i16(
 pub fn legend_record_total_value_range(legend: LegendRecord) -> LegendValueRange
     ensures { result ≡ range_to_c (legend_refusal legend.settings legend.kind) (total_value_range (legend_from_c legend)) }
 {
-    let range = legend_range::total_value_range(record::legend_from_c(legend));
+    let range = legend_range::total_value_range(&record::legend_from_c(legend));
     uses::range_to_c(
         refusals::legend_refusal(legend.settings, legend.kind),
         range,
@@ -127,6 +115,6 @@ pub fn legend_record_total_value_range(legend: LegendRecord) -> LegendValueRange
 pub fn legend_record_color_list(legend: LegendRecord) -> LegendColorList
     ensures { result ≡ list_to_c (legend_refusal legend.settings legend.kind) (color_list (legend_from_c legend)) }
 {
-    let list = legend_apply::color_list(record::legend_from_c(legend));
+    let list = legend_apply::color_list(&record::legend_from_c(legend));
     uses::list_to_c(refusals::legend_refusal(legend.settings, legend.kind), list)
 }

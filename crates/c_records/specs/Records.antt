@@ -1,8 +1,8 @@
 -- A legend as C holds it, and the way back; what a builder made. Definitions only.
-use Rattle.refusal.specs.declared.Answer.{Answer}
-use Rattle.refusal.specs.Outcome.{if_done, first_of}
+use Rattle.std.specs.Prelude.{Result}
+use Rattle.refusal.specs.Outcome.{Answer, if_done, first_of, answer_of, made_or}
 use Rattle.legend.specs.declared.Legend.{Legend}
-use Rattle.legend_builders.specs.declared.MadeLegend.{MadeLegend}
+use Rattle.refusal.specs.declared.Refusal.{Refusal}
 use Rattle.legend.specs.Record.{kind_numbered, kind_number, empty_legend}
 use Rattle.c_records.specs.declared.record.LegendRecord.{LegendRecord}
 use Rattle.c_records.specs.declared.record.LegendMade.{LegendMade}
@@ -22,6 +22,7 @@ record_to_c l = record {
   categoric = l.categoric;
 }
 
--- what a builder made; what the call's own arguments are refused by comes first, with the empty legend
-unfoldable pub made_to_c : (first : Answer) → MadeLegend → LegendMade
-made_to_c first made = record { answer = answer_to_c (first_of first made.answer); legend = record_to_c (if_done first made.legend empty_legend) }
+-- what a builder made, the empty legend beside a refusal; what the call's own arguments are refused by comes first
+unfoldable pub made_to_c : (first : Answer) → Result Legend Refusal → LegendMade
+made_to_c first made =
+    record { answer = answer_to_c (first_of first (answer_of made)); legend = record_to_c (if_done first (made_or made empty_legend) empty_legend) }

@@ -1,5 +1,5 @@
 // A legend as C holds it.
-ghost use Rattle.std.specs.Prelude.{◌≡◌};
+ghost use Rattle.std.specs.Prelude.{◌≡◌, Err};
 ghost use Rattle.c_records.specs.Records.{legend_from_c, record_to_c, made_to_c};
 
 use banded::Banded;
@@ -8,9 +8,8 @@ use c_types::settings::LegendSettings;
 use c_types::{answer, settings};
 use catgegoric::CategoricNumeric;
 use legend::{Legend, LegendKind};
-use legend_builders::MadeLegend;
 use linear::Linear;
-use refusal::Answer;
+use refusal::Refusal;
 
 // The kind is 0 for linear, 1 for banded, 2 for categoric; of the three records that of the kind alone counts.
 #[repr(C)]
@@ -31,6 +30,7 @@ pub struct LegendMade {
     pub legend: LegendRecord,
 }
 
+#[tactic(auto, unfolding(crate::specs::Records::legend_from_c))]
 pub fn legend_from_c(stored: LegendRecord) -> Legend
     ensures { result ≡ legend_from_c stored }
 {
@@ -47,6 +47,7 @@ pub fn legend_from_c(stored: LegendRecord) -> Legend
     }
 }
 
+#[tactic(auto, unfolding(crate::specs::Records::record_to_c))]
 fn record_to_c(made: Legend) -> LegendRecord
     ensures { result ≡ record_to_c made }
 {
@@ -64,21 +65,31 @@ fn record_to_c(made: Legend) -> LegendRecord
     }
 }
 
-// What a builder made. The call's own arguments are refused by `first`, before anything else is. Inlined, for the stack.
+// The empty legend beside a refusal.
+#[tactic(auto, unfolding(crate::specs::Records::made_to_c))]
+fn refused(why: Refusal) -> LegendMade
+    ensures { result ≡ made_to_c (Err why) (Err why) }
+{
+    LegendMade {
+        answer: answer::to_c(Err(why)),
+        legend: record_to_c(Legend::empty()),
+    }
+}
+
+// What a builder made, the empty legend beside a refusal. The call's own arguments are refused by `first`, before anything else is. Inlined, for the stack.
 #[inline(always)]
-pub fn made_to_c(first: Answer, made: MadeLegend) -> LegendMade
+#[tactic(auto, unfolding(crate::specs::Records::made_to_c))]
+pub fn made_to_c(first: Result<(), Refusal>, made: Result<Legend, Refusal>) -> LegendMade
     ensures { result ≡ made_to_c first made }
 {
-    let given = made.answer;
-    let legend = made.legend;
     match first {
-        Answer::Refused(_) => LegendMade {
-            answer: answer::to_c(first),
-            legend: record_to_c(Legend::empty()),
+        Ok(()) => match made {
+            Ok(legend) => LegendMade {
+                answer: answer::to_c(Ok(())),
+                legend: record_to_c(legend),
+            },
+            Err(why) => refused(why),
         },
-        Answer::Done => LegendMade {
-            answer: answer::to_c(given),
-            legend: record_to_c(legend),
-        },
+        Err(why) => refused(why),
     }
 }

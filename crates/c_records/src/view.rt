@@ -1,5 +1,6 @@
 // A legend as C lends it: its arrays beside the rest of it.
 ghost use Rattle.std.specs.Prelude.{◌≡◌};
+ghost use Rattle.legend_view.specs.Borrowed.{borrowed_legend};
 ghost use Rattle.c_records.specs.Views.{view_from_c};
 
 use banded::Banded;
@@ -20,17 +21,28 @@ pub struct LegendView {
     pub lookup_count: usize,
 }
 
-pub fn view_from_c(given: LegendView, banded: Banded) -> View
-    ensures { result ≡ view_from_c given banded }
+#[tactic(auto, unfolding(crate::specs::Views::view_from_c))]
+pub fn view_from_c<'a>(
+    given: LegendView,
+    banded: &'a Banded,
+    cmap: &'a [u32; 256],
+    keys: &'a [i64; 256],
+    colors: &'a [u32; 256],
+    lookup: &'a [u32; 513],
+) -> View<'a>
+    ensures { borrowed_legend result ≡ view_from_c given banded.now cmap.now keys.now colors.now lookup.now }
 {
-    let settings = given.settings;
     View {
         kind: LegendKind::from_number(given.kind),
         start: given.start,
         end: given.end,
+        cmap,
         banded,
+        keys,
+        colors,
         count: given.count,
+        lookup,
         lookup_count: given.lookup_count,
-        mapping_config: settings::settings_from_c(settings),
+        mapping_config: settings::settings_from_c(given.settings),
     }
 }

@@ -1,10 +1,8 @@
 -- What the interface refuses by itself, before the table of docs/RULES.md: 100 a flag that is neither 0 nor 1, 101 a kind that is none of 0, 1, 2.
 -- Definitions only.
 use Rattle.std.specs.Prelude.{ℕ, Bool, not, ◌&&◌, ltb}
+use Rattle.refusal.specs.Outcome.{Answer, Done, refuse_if, first_of}
 use Rattle.refusal.specs.declared.Refusal.TheVariants.{BadFlag, BadKind}
-use Rattle.refusal.specs.declared.Answer.{Answer}
-use Rattle.refusal.specs.declared.Answer.TheVariants.{Done}
-use Rattle.refusal.specs.Outcome.{refuse_if, first_of}
 use Rattle.c_types.specs.declared.settings.LegendSettings.{LegendSettings}
 
 abbrev pub settings_flags : LegendSettings → Bool

@@ -2,7 +2,7 @@
 ghost use Rattle.std.specs.Prelude.{◌≡◌};
 ghost use Rattle.c_types.specs.Answers.{answer_to_c, with_index};
 
-use refusal::{Answer, Index};
+use refusal::Refusal;
 
 // A refusal's number, 0 where nothing is refused, and its index: `indexed` is 1 where the table of refusals names one.
 #[repr(C)]
@@ -13,27 +13,20 @@ pub struct LegendAnswer {
     pub index: usize,
 }
 
-// An answer as C reads it: an enum does not pass to C.
-pub fn to_c(a: Answer) -> LegendAnswer
+// An answer as C reads it: a Result does not pass to C.
+pub fn to_c(a: Result<(), Refusal>) -> LegendAnswer
     ensures { result ≡ answer_to_c a }
 {
-    let number = a.number();
-    with_index(number, a.index())
+    let number = refusal::answer_number(a);
+    with_index(number, refusal::answer_index(a))
 }
 
-fn with_index(number: u32, i: Index) -> LegendAnswer
+fn with_index(number: u32, i: Option<usize>) -> LegendAnswer
     ensures { result ≡ with_index number i }
 {
-    match i {
-        Index::At(index) => LegendAnswer {
-            number,
-            indexed: 1,
-            index,
-        },
-        Index::Absent => LegendAnswer {
-            number,
-            indexed: 0,
-            index: 0,
-        },
+    LegendAnswer {
+        number,
+        indexed: i.is_some() as u32,
+        index: i.unwrap_or(0),
     }
 }

@@ -4,7 +4,7 @@ ghost use Rattle.std.specs.Prelude.{◌≡◌};
 ghost use Rattle.c_types.specs.Refusals.{settings_flags, settings_refusal, legend_refusal, use_refusal};
 
 use crate::settings::LegendSettings;
-use refusal::{Answer, Refusal};
+use refusal::Refusal;
 
 fn are_flags(settings: LegendSettings) -> bool
     ensures { result ≡ settings_flags settings }
@@ -13,41 +13,36 @@ fn are_flags(settings: LegendSettings) -> bool
 }
 
 // A builder's settings.
-pub fn settings_refusal(settings: LegendSettings) -> Answer
+#[tactic(auto, unfolding(crate::specs::Refusals::settings_refusal))]
+pub fn settings_refusal(settings: LegendSettings) -> Result<(), Refusal>
     ensures { result ≡ settings_refusal settings }
 {
     if are_flags(settings) {
-        return Answer::Done;
+        return Ok(());
     }
-    Answer::Refused(Refusal::BadFlag)
+    Err(Refusal::BadFlag)
 }
 
 // A legend: its flags, then its kind.
 #[tactic(auto, unfolding(crate::specs::Refusals::legend_refusal))]
-pub fn legend_refusal(settings: LegendSettings, kind: u32) -> Answer
+pub fn legend_refusal(settings: LegendSettings, kind: u32) -> Result<(), Refusal>
     ensures { result ≡ legend_refusal settings kind }
 {
-    let flags = settings_refusal(settings);
-    if let Answer::Refused(_) = flags {
-        return flags;
-    }
+    settings_refusal(settings)?;
     if 2 < kind {
-        return Answer::Refused(Refusal::BadKind);
+        return Err(Refusal::BadKind);
     }
-    flags
+    Ok(())
 }
 
 // A legend and the flag of a nodata value.
 #[tactic(auto, unfolding(crate::specs::Refusals::use_refusal))]
-pub fn use_refusal(settings: LegendSettings, kind: u32, given: u32) -> Answer
+pub fn use_refusal(settings: LegendSettings, kind: u32, given: u32) -> Result<(), Refusal>
     ensures { result ≡ use_refusal settings kind given }
 {
-    let legend = legend_refusal(settings, kind);
-    if let Answer::Refused(_) = legend {
-        return legend;
-    }
+    legend_refusal(settings, kind)?;
     if 1 < given {
-        return Answer::Refused(Refusal::BadFlag);
+        return Err(Refusal::BadFlag);
     }
-    legend
+    Ok(())
 }

@@ -2,13 +2,8 @@
 ghost use Rattle.std.specs.Prelude.{◌≡◌};
 ghost use Rattle.c_types.specs.Samples.{nodata_if};
 
-use cast::Nodata;
-
-pub fn nodata_if(given: u32, value: f32) -> Nodata
+pub fn nodata_if(given: u32, value: f32) -> Option<f32>
     ensures { result ≡ nodata_if given value }
 {
-    if given == 1 {
-        return Nodata::Value(value);
-    }
-    Nodata::Absent
+    (given == 1).then_some(value)
 }

@@ -16,6 +16,7 @@ pub struct LegendSettings {
     pub zero_is_nodata: u32,
 }
 
+#[tactic(auto, unfolding(crate::specs::Settings::settings_from_c))]
 pub fn settings_from_c(settings: LegendSettings) -> MappingConfig
     ensures { result ≡ settings_from_c settings }
 {
@@ -28,6 +29,7 @@ pub fn settings_from_c(settings: LegendSettings) -> MappingConfig
 }
 
 // The other way: the colour 0 where none is given.
+#[tactic(auto, unfolding(crate::specs::Settings::settings_to_c))]
 pub fn settings_to_c(config: MappingConfig) -> LegendSettings
     ensures { result ≡ settings_to_c config }
 {
@@ -35,8 +37,8 @@ pub fn settings_to_c(config: MappingConfig) -> LegendSettings
     let high = config.out_of_range_high_color;
     LegendSettings {
         nodata_color: config.nodata_color,
-        low_color: colormapper::unwrap_or(low, 0),
-        high_color: colormapper::unwrap_or(high, 0),
+        low_color: low.unwrap_or(0),
+        high_color: high.unwrap_or(0),
         has_low: colormapper::given_flag(low),
         has_high: colormapper::given_flag(high),
         zero_is_nodata: colormapper::flag_of(config.zero_is_nodata),

@@ -1,3 +1,4 @@
 pub mod Numbers
+pub mod LittleEndian
 pub mod Overwriting
 pub mod Entries

@@ -2,11 +2,10 @@
 use Prim.Native.Nat.{ℕ, zero, suc, ◌+◌, ◌*◌, ◌/◌, ◌%◌, ◌^◌, ◌≤◌, ◌<◌}
 use mathlib.Core.Path.{◌≡◌, refl, sym, ap, ap₂, ◌∙◌}
 use mathlib.Core.List.{List, [], ◌∷◌, ◌++◌}
-use native.Mathlib.Nat.{zero-add, suc-add, mul_assoc, pow-suc, pow-succ', one-le-pow, pow-le-pow_right, lt_of_lt_of_le, div-one, div-div-eq-div-mul}
+use native.Mathlib.Nat.{pow-succ', pow-le-pow_right, lt_of_lt_of_le}
 use native.Mathlib.Omega.{arith}
-use lib.Arith.{mod-mul}
 use lib.ListN.{length, get_or, take, drop, length-take, length-drop}
-use lib.Seq.{length-take-le, take_at, drop-cons, drop-append-add, drop-drop, take-add}
+use lib.Seq.{length-take-le, take_at, drop-cons, drop-append-add, drop-drop}
 use Rattle.card_bytes.specs.Numbers.{Bytes, bytes_of, number_in, number_at}
 
 -- ---- bytes
@@ -58,35 +57,6 @@ unfolding Bytes number_in
 number-below [] h = omega arith
 number-below (b ∷ bs) h = omega (arith, h.0, number-below bs h.1, pow-succ' 256 (length bs))
 
--- ---- parts
-
-number_append : (xs ys : List ℕ) → number_in (xs ++ ys) ≡ number_in xs + 256 ^ length xs * number_in ys
-unfolding number_in
-number_append [] ys = omega arith
-number_append (x ∷ xs) ys =
-    let p : 256 ^ suc (length xs) * number_in ys ≡ 256 * (256 ^ length xs * number_in ys) =
-    ap (λ (k : ℕ). k * number_in ys) (pow-succ' 256 (length xs)) ∙ mul_assoc 256 (256 ^ length xs) (number_in ys) in
-    omega (arith, number_append xs ys)
-
-pub bytes_of_split : (w v n : ℕ) → bytes_of (w + v) n ≡ bytes_of w n ++ bytes_of v (n / 256 ^ w)
-unfolding bytes_of
-bytes_of_split zero v n = ap₂ bytes_of (zero-add v) (sym (div-one n))
-bytes_of_split (suc w) v n =
-    let e : n / 256 / 256 ^ w ≡ n / 256 ^ suc w = div-div-eq-div-mul n 256 (256 ^ w) ∙ ap (λ (k : ℕ). n / k) (sym (pow-succ' 256 w)) in
-    ap (λ (k : ℕ). bytes_of k n) (suc-add w v) ∙ ap (λ (r : List ℕ). n % 256 ∷ r) (bytes_of_split w v (n / 256))
-    ∙ ap (λ (k : ℕ). n % 256 ∷ bytes_of w (n / 256) ++ bytes_of v k) e
-
--- the low bytes alone
-pub bytes_of-low : (w n : ℕ) → bytes_of w (n % 256 ^ w) ≡ bytes_of w n
-unfolding bytes_of
-bytes_of-low zero n = refl
-bytes_of-low (suc w) n =
-    let m = n / 256 % 256 ^ w in
-    let e : n % 256 ^ suc w ≡ m * 256 + n % 256 = ap (λ (k : ℕ). n % k) (pow-suc 256 w) ∙ mod-mul n (one-le-pow w 256 (omega arith)) (omega arith) in
-    let low : n % 256 ^ suc w % 256 ≡ n % 256 = omega (arith, e) in
-    let high : n % 256 ^ suc w / 256 ≡ m = omega (arith, e) in
-    ap₂ (λ (x k : ℕ). x ∷ bytes_of w k) low high ∙ ap (λ (r : List ℕ). n % 256 ∷ r) (bytes_of-low w (n / 256))
-
 -- ---- a number at a place
 
 pub number-one : (at : ℕ) (bs : List ℕ) → at < length bs → get_or bs at 0 ≡ number_at at 1 bs
@@ -121,15 +91,5 @@ module _ (at w : ℕ) (bs : List ℕ) where
       let part = take w (drop at bs) in
       ap (λ (k : ℕ). bytes_of k (number_in part)) (sym (length_part h)) ∙ bytes_back part (Bytes-take w (drop at bs) (Bytes-drop at bs b))
 
-pub number_at_split : (at w v : ℕ) (bs : List ℕ) → at + w ≤ length bs → number_at at (w + v) bs ≡ number_at at w bs + 256 ^ w * number_at (at + w) v bs
-unfolding number_at
-number_at_split at w v bs h =
-    let part = take w (drop at bs) in
-    ap number_in (take-add w v (drop at bs) ∙ ap (λ (r : List ℕ). part ++ take v r) (drop-drop w at bs))
-    ∙ number_append part (take v (drop (at + w) bs))
-    ∙ ap (λ (k : ℕ). number_in part + 256 ^ k * number_in (take v (drop (at + w) bs))) (length_part at w bs h)
-
--- a number of two parts, by what was read of each
-pub number_parts : {a b : ℕ} (at w v : ℕ) (bs : List ℕ) → a ≡ number_at at w bs → b ≡ number_at (at + w) v bs → at + w ≤ length bs
-    → a + 256 ^ w * b ≡ number_at at (w + v) bs
-number_parts at w v bs e f h = ap₂ (λ (a b : ℕ). a + 256 ^ w * b) e f ∙ sym (number_at_split at w v bs h)
+-- for the check's own search
+pub ruleset first_byte = (number-one)

@@ -1,14 +1,14 @@
 -- Bytes laid over a buffer: its length, one store, and one part after the other. Assumes nothing.
-use Prim.Native.Nat.{ℕ, ◌+◌, ◌/◌, ◌^◌, ◌≤◌, ◌<◌}
-use mathlib.Core.Path.{◌≡◌, sym, ap, ap₂, ◌∙◌}
+use Prim.Native.Nat.{ℕ, ◌+◌, ◌-◌, ◌≤◌, ◌<◌}
+use mathlib.Core.Path.{◌≡◌, refl, sym, ap, ap₂, ◌∙◌}
 use mathlib.Core.List.{List, [], ◌∷◌, ◌++◌, append_assoc}
 use native.Mathlib.Nat.{zero-add}
-use native.Mathlib.Numerals.{add-one}
 use native.Mathlib.Omega.{arith}
-use lib.ListN.{length, get_or, take, drop, set, length-append, length-drop}
-use lib.Seq.{length-take-le, take_at, drop_at, drop-drop, take-suc, sets-eq, paste-zero}
-use Rattle.card_bytes.specs.Numbers.{bytes_of, overwritten}
-use Rattle.card_bytes.proofs.Numbers.{length-bytes_of, bytes_of_split}
+use lib.ListN.{length, take, drop, set, length-append, length-drop}
+use borrow.Rule.Slice.PartMut.{put_mid}
+use Rattle.std.proofs.lemmas.Slice.{put_mid-paste}
+use lib.Seq.{take_all, length-take-le, take_at, drop_at, drop-drop, sets-eq, paste-zero}
+use Rattle.card_bytes.specs.Numbers.{overwritten}
 
 -- what is laid, with what stands before it
 length_head : (at : ℕ) (xs l : List ℕ) → at + length xs ≤ length l → length (take at l ++ xs) ≡ at + length xs
@@ -32,6 +32,13 @@ pub set-overwritten : (at b : ℕ) (l : List ℕ) → at < length l → set l at
 unfolding overwritten
 set-overwritten at b l h = sets-eq (b ∷ []) l at (omega arith)
 
+-- what `copy_from_slice` leaves of a buffer
+pub put_mid-overwritten : (at : ℕ) (xs part l : List ℕ) → part ≡ xs → put_mid at (at + length xs - at) l part ≡ overwritten at xs l
+unfolding overwritten
+put_mid-overwritten at xs part l e =
+    put_mid-paste at (at + length xs - at) l part xs (length xs) e (omega arith) refl
+    ∙ ap (λ (a : List ℕ). take at l ++ a ++ drop (at + length xs) l) (take_all (length xs) xs (omega arith))
+
 -- a second part from the first's end on
 pub overwritten_then : (at : ℕ) (xs ys l : List ℕ) → at + length xs ≤ length l
     → overwritten (at + length xs) ys (overwritten at xs l) ≡ overwritten at (xs ++ ys) l
@@ -52,19 +59,5 @@ pub wrote_then : {at' : ℕ} {l₁ l₂ : List ℕ} (at : ℕ) (xs ys l : List �
     → at' ≡ at + length xs → at + length xs ≤ length l → l₂ ≡ overwritten at (xs ++ ys) l
 wrote_then at xs ys l e f g h = f ∙ ap₂ (λ (k : ℕ) (r : List ℕ). overwritten k ys r) g e ∙ overwritten_then at xs ys l h
 
--- a number in two parts
-pub wrote_parts : {at' : ℕ} {l₁ l₂ : List ℕ} (at w v n : ℕ) (l : List ℕ) → l₁ ≡ overwritten at (bytes_of w n) l
-    → l₂ ≡ overwritten at' (bytes_of v (n / 256 ^ w)) l₁ → at' ≡ at + w → at + w ≤ length l → l₂ ≡ overwritten at (bytes_of (w + v) n) l
-wrote_parts at w v n l e f g h =
-    let long : length (bytes_of w n) ≡ w = length-bytes_of w n in
-    wrote_then at (bytes_of w n) (bytes_of v (n / 256 ^ w)) l e f (omega arith) (omega arith)
-    ∙ ap (λ (r : List ℕ). overwritten at r l) (sym (bytes_of_split w v n))
-
--- one more of some bytes that are laid one by one
-pub wrote_more : {l₁ : List ℕ} (at i : ℕ) (part l : List ℕ) → l₁ ≡ overwritten at (take i part) l → i < length part → at + length part ≤ length l
-    → set l₁ (at + i) (get_or part i 0) ≡ overwritten at (take (i + 1) part) l
-wrote_more {l₁} at i part l e h g =
-    let long : length (take i part) ≡ i = length-take-le i part (omega arith) in
-    let all : length l₁ ≡ length l = ap length e ∙ length-overwritten at (take i part) l (omega arith) in
-    wrote_then at (take i part) (get_or part i 0 ∷ []) l e (set-overwritten (at + i) (get_or part i 0) l₁ (omega arith)) (omega arith) (omega arith)
-    ∙ ap (λ (r : List ℕ). overwritten at r l) (sym (ap (λ (k : ℕ). take k part) (add-one i) ∙ take-suc part i 0 h))
+-- for the check's own search
+pub ruleset overwriting = (set-overwritten, put_mid-overwritten)

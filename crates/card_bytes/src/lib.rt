@@ -6,6 +6,7 @@ ghost use Rattle.card_bytes.specs.Numbers.{bytes_of, number_at, overwritten};
 
 // ---- reading
 
+#[tactic(auto, using(crate::proofs::Numbers::first_byte))]
 pub fn u8_at(bytes: &[u8], at: usize) -> u8
     requires { at < length bytes.now }
     ensures { result ≡ number_at at 1 bytes.now }
@@ -13,29 +14,34 @@ pub fn u8_at(bytes: &[u8], at: usize) -> u8
     bytes[at]
 }
 
+#[tactic(auto, using(crate::proofs::LittleEndian::number_2), unfolding(crate::specs::Numbers::number_at))]
 pub fn u16_at(bytes: &[u8], at: usize) -> u16
     requires { at + 2 ≤ length bytes.now }
     ensures { result ≡ number_at at 2 bytes.now }
 {
-    u8_at(bytes, at) as u16 + 256 * (u8_at(bytes, at + 1) as u16)
+    u16::from_le_bytes(bytes[at..at + 2].try_into().unwrap())
 }
 
+#[tactic(auto, using(crate::proofs::LittleEndian::number_4), unfolding(crate::specs::Numbers::number_at))]
 pub fn u32_at(bytes: &[u8], at: usize) -> u32
     requires { at + 4 ≤ length bytes.now }
     ensures { result ≡ number_at at 4 bytes.now }
 {
-    u16_at(bytes, at) as u32 + 65536 * (u16_at(bytes, at + 2) as u32)
+    u32::from_le_bytes(bytes[at..at + 4].try_into().unwrap())
 }
 
+#[tactic(auto, using(crate::proofs::LittleEndian::number_8), unfolding(crate::specs::Numbers::number_at))]
 pub fn u64_at(bytes: &[u8], at: usize) -> u64
     requires { at + 8 ≤ length bytes.now }
     ensures { result ≡ number_at at 8 bytes.now }
 {
-    u32_at(bytes, at) as u64 + 0x1_0000_0000 * (u32_at(bytes, at + 4) as u64)
+    u64::from_le_bytes(bytes[at..at + 8].try_into().unwrap())
 }
 
 // ---- writing
+// One function for each width, reading and writing: `to_le_bytes` and `from_le_bytes` have an array of each type of their own.
 
+#[tactic(auto, using(crate::proofs::Overwriting::overwriting), unfolding(crate::specs::Numbers::bytes_of))]
 pub fn put_u8(bytes: &mut [u8], at: usize, number: u32)
     requires { at < length bytes.old }
     ensures { bytes.new ≡ overwritten at (bytes_of 1 number) bytes.old }
@@ -43,39 +49,35 @@ pub fn put_u8(bytes: &mut [u8], at: usize, number: u32)
     bytes[at] = (number % 256) as u8;
 }
 
+#[tactic(auto, using(crate::proofs::LittleEndian::bytes_2))]
 pub fn put_u16(bytes: &mut [u8], at: usize, number: u32)
     requires { at + 2 ≤ length bytes.old }
     ensures { bytes.new ≡ overwritten at (bytes_of 2 number) bytes.old }
 {
-    put_u8(bytes, at, number);
-    put_u8(bytes, at + 1, number / 256);
+    put_all(bytes, at, &number.to_le_bytes()[..2]);
 }
 
+#[tactic(auto, using(crate::proofs::LittleEndian::bytes_4))]
 pub fn put_u32(bytes: &mut [u8], at: usize, number: u32)
     requires { at + 4 ≤ length bytes.old }
     ensures { bytes.new ≡ overwritten at (bytes_of 4 number) bytes.old }
 {
-    put_u16(bytes, at, number);
-    put_u16(bytes, at + 2, number / 65536);
+    put_all(bytes, at, &number.to_le_bytes());
 }
 
+#[tactic(auto, using(crate::proofs::LittleEndian::bytes_8))]
 pub fn put_u64(bytes: &mut [u8], at: usize, number: u64)
     requires { at + 8 ≤ length bytes.old }
     ensures { bytes.new ≡ overwritten at (bytes_of 8 number) bytes.old }
 {
-    put_u32(bytes, at, (number % 0x1_0000_0000) as u32);
-    put_u32(bytes, at + 4, (number / 0x1_0000_0000) as u32);
+    put_all(bytes, at, &number.to_le_bytes());
 }
 
 // All of some bytes.
+#[tactic(auto, using(crate::proofs::Overwriting::overwriting))]
 pub fn put_all(bytes: &mut [u8], at: usize, part: &[u8])
     requires { at + length part.now ≤ length bytes.old }
     ensures { bytes.new ≡ overwritten at part.now bytes.old }
 {
-    let mut i: usize = 0;
-    while i < part.len() {
-        let place = at + i;
-        bytes[place] = part[i];
-        i += 1;
-    }
+    bytes[at..at + part.len()].copy_from_slice(part);
 }

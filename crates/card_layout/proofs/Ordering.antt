@@ -1,4 +1,7 @@
 -- Keys in order are those of an array's first places. Assumes nothing.
+use Rattle.std.specs.Prelude.{Ok, Err}
+use Rattle.std.specs.Result.{is_ok}
+use Rattle.refusal.specs.Outcome.{Answer, if_done}
 use mathlib.Core.Path.{◌≡◌, refl, sym, ap, ◌∙◌}
 use mathlib.Core.Bool.{Bool, true, false, ◌&&◌}
 use mathlib.Core.List.{List}
@@ -8,8 +11,6 @@ use lib.IntN.{ℤ, pos}
 use lib.ListN.{length, take, get_or}
 use lib.Seq.{length-take-le, get_or-take}
 use lib.Signed.{lt_z}
-use Rattle.refusal.specs.declared.Answer.{Answer}
-use Rattle.refusal.specs.Outcome.{if_done}
 use Rattle.categoric_lists.specs.Ascending.{ascends}
 use Rattle.categoric_lists.specs.Keys.{keys_refusal}
 use Rattle.card_layout.specs.Stored.{keys_in_order}
@@ -29,10 +30,18 @@ ascends_front keys n (suc (suc m)) h =
 pub ascends_taken : (keys : List ℤ) (n : ℕ) → n ≤ length keys → ascends (take n keys) (length (take n keys)) ≡ ascends keys n
 ascends_taken keys n h = ap (ascends (take n keys)) (length-take-le n keys h) ∙ ascends_front keys n n (omega arith)
 
+is_ok-done : (a : Answer) → is_ok a ≡ if_done a true false
+is_ok-done (Ok _) = refl
+is_ok-done (Err why) = refl
+
 -- what the two tests of an array tell
-pub keys_tested : (keys : List ℤ) (n : ℕ) (t : Bool) (a : Answer) → n ≤ length keys → t ≡ ascends keys n → a ≡ keys_refusal (take n keys)
-    → (t && if_done a true false) ≡ keys_in_order (take n keys)
+pub in_order_if : (keys : List ℤ) (n : ℕ) {t b : Bool} → n ≤ length keys → t ≡ ascends keys n → t ≡ true → b ≡ is_ok (keys_refusal (take n keys))
+    → b ≡ keys_in_order (take n keys)
 unfolding keys_in_order
-keys_tested keys n t a h e f =
-    ap (λ (b : Bool). b && if_done a true false) (e ∙ sym (ascends_taken keys n h))
-    ∙ ap (λ (x : Answer). ascends (take n keys) (length (take n keys)) && if_done x true false) f
+in_order_if keys n h e x f =
+    f ∙ is_ok-done (keys_refusal (take n keys)) ∙ ap (λ (b : Bool). b && if_done (keys_refusal (take n keys)) true false) (sym x ∙ e ∙ sym (ascends_taken keys n h))
+
+pub out_of_order : (keys : List ℤ) (n : ℕ) {t : Bool} → n ≤ length keys → t ≡ ascends keys n → t ≡ false → t ≡ keys_in_order (take n keys)
+unfolding keys_in_order
+out_of_order keys n h e x =
+    x ∙ ap (λ (b : Bool). b && if_done (keys_refusal (take n keys)) true false) (sym x ∙ e ∙ sym (ascends_taken keys n h))

@@ -1,5 +1,5 @@
 -- The entries of a card, by kind, written and read (docs/RULES.md, "Cards"). Definitions only.
-use Rattle.std.specs.Prelude.{ℕ, ◌+◌, Bool, not, ◌&&◌, ◌||◌, List, ◌++◌, eqb, drop}
+use Rattle.std.specs.Prelude.{ℕ, Bool, not, ◌&&◌, ◌||◌, List, ◌++◌, eqb, drop}
 use Rattle.std.specs.Float.{binary32}
 use Rattle.std.specs.Float.Ieee.{nan_bits}
 use Rattle.words.specs.Values.{float_of, bits_of, signed_of, unsigned_of}

@@ -1,9 +1,7 @@
 -- What the reader and the writer of cards refuse, in their order (docs/RULES.md, "Where each call says no"). Definitions only.
 use Rattle.std.specs.Prelude.{ℕ, Bool, not, ◌&&◌, ◌||◌, List, ltb, eqb, length}
+use Rattle.refusal.specs.Outcome.{Answer, Done, refuse_if, first_of}
 use Rattle.refusal.specs.declared.Refusal.TheVariants.{CountAboveCapacity, CardUnknown, CardMalformed, CardTooLong}
-use Rattle.refusal.specs.declared.Answer.{Answer}
-use Rattle.refusal.specs.declared.Answer.TheVariants.{Done}
-use Rattle.refusal.specs.Outcome.{refuse_if, first_of}
 use Rattle.linear.specs.Made.{range_refusal}
 use Rattle.legend.specs.declared.LegendKind.{LegendKind}
 use Rattle.legend.specs.declared.LegendKind.TheVariants as kind

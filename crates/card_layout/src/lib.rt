@@ -4,19 +4,14 @@
 ghost use Rattle.std.specs.Prelude.{◌≡◌, ◌≤◌, length, take};
 ghost use Rattle.card_layout.specs.Stored.{keys_in_order};
 
-use refusal::Answer;
+use refusal::Refusal;
 
-// Whether the first `count` keys ascend strictly and none passes the limit of refusal 17.
+// Whether the first `count` keys ascend strictly and none passes the limit of refusal 17. An array and a count, since
+// `categoric_keys::ascending` takes them.
+#[tactic(auto, using(crate::proofs::Ordering::in_order_if, crate::proofs::Ordering::out_of_order))]
 pub fn keys_in_order(keys: &[i64; 256], count: usize) -> bool
     requires { (count ≤ 256) × (length keys.now ≡ 256) }
     ensures { result ≡ keys_in_order (take count keys.now) }
 {
-    if !categoric_keys::ascending(keys, count) {
-        return false;
-    }
-    let answer = categoric_lists::keys_refusal(keys, count);
-    match answer {
-        Answer::Done => true,
-        Answer::Refused(_) => false,
-    }
+    categoric_keys::ascending(keys, count) && categoric_lists::keys_refusal(&keys[..count]).is_ok()
 }

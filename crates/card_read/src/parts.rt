@@ -10,8 +10,5 @@ pub fn after_title(card: &[u8]) -> &[u8]
         return &card[0..0];
     }
     let start = 7 + card_bytes::u8_at(card, 6) as usize;
-    if card.len() < start {
-        return &card[0..0];
-    }
-    &card[start..]
+    &card[start.min(card.len())..]
 }

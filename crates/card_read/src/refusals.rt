@@ -12,16 +12,16 @@ ghost use Rattle.card_layout.specs.Refusals.{bounds_refusal, known, well_formed,
 use crate::{parts, values};
 use card_bytes::{u8_at, u16_at, u32_at};
 use legend::LegendKind;
-use refusal::{Answer, Refusal};
+use refusal::Refusal;
 
-pub fn read_refusal(card: &[u8]) -> Answer
+pub fn read_refusal(card: &[u8]) -> Result<(), Refusal>
     ensures { result ≡ read_refusal card.now }
 {
     if !known(card) {
-        return Answer::Refused(Refusal::CardUnknown);
+        return Err(Refusal::CardUnknown);
     }
     if !well_formed(card) {
-        return Answer::Refused(Refusal::CardMalformed);
+        return Err(Refusal::CardMalformed);
     }
     bounds_refusal(card)
 }
@@ -33,11 +33,12 @@ fn known(card: &[u8]) -> bool
     if card.len() < 6 {
         return false;
     }
-    let mark = u16_at(card, 0) as u32 + 65536 * (u8_at(card, 2) as u32);
+    let mark = u32::from_le_bytes([card[0], card[1], card[2], 0]);
     (mark == 0x43474C) & (u16_at(card, 3) == 1) & (u8_at(card, 5) < 3)
 }
 
 // 19: everything else.
+#[tactic(auto, using(crate::proofs::Found::misfits))]
 fn well_formed(card: &[u8]) -> bool
     ensures { result ≡ well_formed card.now }
 {
@@ -58,6 +59,7 @@ fn well_formed(card: &[u8]) -> bool
     }
 }
 
+#[tactic(auto, unfolding(card_layout::specs::Settings::settings_fit))]
 fn settings_fit(rest: &[u8]) -> bool
     requires { 15 ≤ length rest.now }
     ensures { result ≡ settings_fit (number_at 4 1 rest.now) (number_at 5 4 rest.now) (number_at 9 4 rest.now) }
@@ -73,25 +75,13 @@ fn settings_fit(rest: &[u8]) -> bool
 fn linear_fits(count: usize, entries: &[u8]) -> bool
     ensures { result ≡ entries_fit_in kind.Linear count entries.now }
 {
-    if count != 256 {
-        return false;
-    }
-    if entries.len() != 1032 {
-        return false;
-    }
-    bounds_canonical(entries, 0)
+    count == 256 && entries.len() == 1032 && bounds_canonical(entries, 0)
 }
 
 fn bands_fit(count: usize, entries: &[u8]) -> bool
     ensures { result ≡ entries_fit_in kind.Banded count entries.now }
 {
-    if count > 64 {
-        return false;
-    }
-    if entries.len() != 12 * count {
-        return false;
-    }
-    each_canonical(entries, count)
+    count <= 64 && entries.len() == 12 * count && each_canonical(entries, count)
 }
 
 fn categories_fit(count: usize, entries: &[u8]) -> bool
@@ -107,21 +97,22 @@ fn categories_fit(count: usize, entries: &[u8]) -> bool
     card_layout::keys_in_order(&keys, count)
 }
 
+#[tactic(auto, using(crate::proofs::Testing::testing))]
 fn each_canonical(entries: &[u8], count: usize) -> bool
     requires { (count ≤ 64) × (length entries.now ≡ 12 * count) }
     ensures { result ≡ each bounds_canonical (entries_in 12 count (λ entry. entry) entries.now) }
 {
-    let mut i: usize = 0;
-    while i < count {
+    // A loop: with `all` over the places the proof does not close.
+    for i in 0..count {
         if !bounds_canonical(entries, 12 * i) {
             return false;
         }
-        i += 1;
     }
     true
 }
 
 // Of the two bounds from a place on.
+#[tactic(auto, using(crate::proofs::Entries::places), unfolding(card_layout::specs::Entries::bounds_canonical))]
 fn bounds_canonical(entries: &[u8], at: usize) -> bool
     requires { at + 8 ≤ length entries.now }
     ensures { result ≡ bounds_canonical (drop at entries.now) }
@@ -130,6 +121,7 @@ fn bounds_canonical(entries: &[u8], at: usize) -> bool
 }
 
 // A NaN only 7FC00000.
+#[tactic(auto, using(crate::proofs::Canonical::canonical_test))]
 fn is_canonical(bits: u32) -> bool
     ensures { result ≡ canonical bits }
 {
@@ -138,12 +130,12 @@ fn is_canonical(bits: u32) -> bool
 
 // ---- 7: of a linear card alone
 
-fn bounds_refusal(card: &[u8]) -> Answer
+fn bounds_refusal(card: &[u8]) -> Result<(), Refusal>
     requires { well_formed card.now ≡ true }
     ensures { result ≡ bounds_refusal (legend_in card.now) }
 {
     if u8_at(card, 5) != 0 {
-        return Answer::Done;
+        return Ok(());
     }
     let rest = parts::after_title(card);
     linear::range_refusal(

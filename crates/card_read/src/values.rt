@@ -21,6 +21,7 @@ use colormapper::MappingConfig;
 use legend::{Legend, LegendKind};
 use linear::Linear;
 
+#[tactic(auto, using(crate::proofs::Told::telling))]
 pub fn legend_in(card: &[u8]) -> Legend
     requires { well_formed card.now ≡ true }
     ensures { result ≡ legend_in card.now }
@@ -39,11 +40,13 @@ pub fn legend_in(card: &[u8]) -> Legend
     }
 }
 
+#[tactic(auto, unfolding(card_layout::specs::Settings::settings_in))]
 fn settings_in(rest: &[u8]) -> MappingConfig
     requires { 15 ≤ length rest.now }
     ensures { result ≡ settings_in (number_at 0 4 rest.now) (number_at 4 1 rest.now)
         (number_at 5 4 rest.now) (number_at 9 4 rest.now) }
 {
+    // The flags are bits of a byte by the card's layout.
     let flags = u8_at(rest, 4) as u32;
     MappingConfig {
         nodata_color: u32_at(rest, 0),
@@ -55,33 +58,33 @@ fn settings_in(rest: &[u8]) -> MappingConfig
 
 // ---- linear
 
+#[tactic(auto, using(crate::proofs::Found::from_on), unfolding(card_layout::specs::Entries::linear_in))]
 fn linear_in(entries: &[u8]) -> Linear
     requires { length entries.now ≡ 1032 }
     ensures { result ≡ linear_in entries.now }
 {
-    let cmap = ramp_in(&entries[8..]);
     Linear {
         start: words::float(u32_at(entries, 0)),
         end: words::float(u32_at(entries, 4)),
-        cmap,
+        cmap: ramp_in(&entries[8..]),
     }
 }
 
+#[tactic(auto, using(crate::proofs::Storing::storing_entries))]
 fn ramp_in(colors: &[u8]) -> [u32; 256]
     requires { length colors.now ≡ 1024 }
     ensures { result ≡ entries_in 4 256 (number_at 0 4) colors.now }
 {
     let mut ramp = [0u32; 256];
-    let mut i: usize = 0;
-    while i < 256 {
+    for i in 0..256 {
         ramp[i] = u32_at(colors, 4 * i);
-        i += 1;
     }
     ramp
 }
 
-// ---- banded
+// ---- banded: a record's arrays have fixed places, as nothing is allocated, and those behind the count are blank
 
+#[tactic(auto, using(crate::proofs::Entries::counted_entries), unfolding(banded::specs::Record::banded_of))]
 fn banded_in(entries: &[u8], count: usize) -> Banded
     requires { (count ≤ 64) × (length entries.now ≡ 12 * count) }
     ensures { result ≡ banded_of (entries_in 12 count band_in entries.now) }
@@ -92,19 +95,19 @@ fn banded_in(entries: &[u8], count: usize) -> Banded
     }
 }
 
+#[tactic(auto, using(crate::proofs::Storing::storing_entries))]
 fn bands_in(entries: &[u8], count: usize) -> [LegendBand; 64]
     requires { (count ≤ 64) × (length entries.now ≡ 12 * count) }
     ensures { result ≡ padded_bands (entries_in 12 count band_in entries.now) }
 {
     let mut bands = banded_lists::no_bands();
-    let mut i: usize = 0;
-    while i < count {
+    for i in 0..count {
         bands[i] = band_at(entries, 12 * i);
-        i += 1;
     }
     bands
 }
 
+#[tactic(auto, using(crate::proofs::Entries::places), unfolding(card_layout::specs::Entries::band_in))]
 fn band_at(entries: &[u8], at: usize) -> LegendBand
     requires { at + 12 ≤ length entries.now }
     ensures { result ≡ band_in (drop at entries.now) }
@@ -127,28 +130,26 @@ fn categoric_in(entries: &[u8], count: usize) -> CategoricNumeric
     catgegoric::with_lookup(keys, colors, count)
 }
 
+#[tactic(auto, using(crate::proofs::Storing::storing_fields), unfolding(card_layout::specs::Entries::category_in))]
 pub fn keys_in(entries: &[u8], count: usize) -> [i64; 256]
     requires { (count ≤ 256) × (length entries.now ≡ 12 * count) }
     ensures { result ≡ padded (pos 0) 256 (keys_of (entries_in 12 count category_in entries.now)) }
 {
     let mut keys = [0i64; 256];
-    let mut i: usize = 0;
-    while i < count {
+    for i in 0..count {
         keys[i] = words::signed(u64_at(entries, 12 * i));
-        i += 1;
     }
     keys
 }
 
+#[tactic(auto, using(crate::proofs::Storing::storing_fields), unfolding(card_layout::specs::Entries::category_in))]
 fn colors_in(entries: &[u8], count: usize) -> [u32; 256]
     requires { (count ≤ 256) × (length entries.now ≡ 12 * count) }
     ensures { result ≡ padded 0 256 (colors_of (entries_in 12 count category_in entries.now)) }
 {
     let mut colors = [0u32; 256];
-    let mut i: usize = 0;
-    while i < count {
+    for i in 0..count {
         colors[i] = u32_at(entries, 12 * i + 8);
-        i += 1;
     }
     colors
 }

@@ -1,5 +1,7 @@
 -- How many bytes a card has, its parts, and what the writer refuses by lengths alone. Assumes nothing.
-use Prim.Native.Nat.{ℕ, ◌+◌, ◌*◌}
+use Rattle.std.specs.Prelude.{Ok, Err}
+use Rattle.refusal.specs.Outcome.{Answer, refuse_if, first_of}
+use Prim.Native.Nat.{ℕ, ◌+◌, ◌*◌, ◌≤◌}
 use mathlib.Core.Path.{◌≡◌, refl, sym, ap, ◌∙◌}
 use mathlib.Core.Bool.{not, ◌||◌}
 use mathlib.Core.List.{List, map, ◌++◌, append_assoc}
@@ -9,9 +11,6 @@ use lib.IntN.{pos}
 use lib.ListN.{length, get_or, length-append, length-map}
 use lib.Seq.{length-take-le}
 use Rattle.refusal.specs.declared.Refusal.TheVariants.{CountAboveCapacity, CardTooLong}
-use Rattle.refusal.specs.declared.Answer.{Answer}
-use Rattle.refusal.specs.declared.Answer.TheVariants.{Done, Refused}
-use Rattle.refusal.specs.Outcome.{refuse_if, first_of}
 use Rattle.lists.proofs.Tabulated.{length-tabulate}
 use Rattle.colormapper.specs.declared.MappingConfig.{MappingConfig}
 use Rattle.colormapper.specs.Settings.{or_else}
@@ -25,11 +24,12 @@ use Rattle.legend.specs.declared.LegendKind.{LegendKind}
 use Rattle.legend.specs.declared.LegendKind.TheVariants as kind
 use Rattle.legend.specs.declared.Legend.{Legend}
 use Rattle.legend.specs.Record.{kind_number, stored_refusal}
-use Rattle.legend.proofs.Stored.{bands-stored}
-use Rattle.card_bytes.specs.Numbers.{bytes_of, overwritten}
+use Rattle.legend.proofs.Stored.{bands-stored, categories-stored}
+use Rattle.card_bytes.specs.Numbers.{bytes_of}
 use Rattle.card_bytes.specs.Entries.{entries_of}
 use Rattle.card_bytes.proofs.Numbers.{length-bytes_of}
 use Rattle.card_bytes.proofs.Entries.{length-entries_of}
+use Rattle.card_write.proofs.Behind.{overwritten_after}
 use Rattle.card_layout.specs.Fields.{mark, version, bytes_of_fields}
 use Rattle.card_layout.specs.Settings.{flags_of}
 use Rattle.card_layout.specs.Entries.{linear_bytes, band_bytes, category_bytes}
@@ -96,17 +96,12 @@ length-settings config count =
     after_number b13 2 count (after_number b9 4 high (after_number b5 4 low l5))
 
 -- ---- by kind
+pub stored_categories : (l : Legend) → stored_refusal l ≡ Ok tt → l.kind ≡ kind.CategoricNumeric → l.categoric.count ≤ 256
+stored_categories l stored e = (categories-stored l stored e).0
+
 length-counted : (c : CategoricNumeric) → length (counted_categories c) ≡ c.count
 unfolding counted_categories
 length-counted c = length-tabulate c.count (λ k. category (get_or c.keys k (pos 0)) (get_or c.colors k 0))
-
-pub entries_of-kind : (l : Legend) (k : LegendKind) → l.kind ≡ k → entries_length l ≡ entries_length_in k l
-unfolding entries_length
-entries_of-kind l k e = ap (λ (x : LegendKind). entries_length_in x l) e
-
-pub laid_of_kind : {r : List ℕ} (at : ℕ) (l : Legend) (buffer : List ℕ) (k : LegendKind) → l.kind ≡ k → r ≡ overwritten at (entries_from k l) buffer
-    → r ≡ overwritten at (entries_from l.kind l) buffer
-laid_of_kind at l buffer k e f = f ∙ sym (ap (λ (x : LegendKind). overwritten at (entries_from x l) buffer) e)
 
 length-linear : (l : Linear) → length l.cmap ≡ 256 → length (linear_bytes l) ≡ 1032
 unfolding linear_bytes
@@ -121,7 +116,7 @@ length-linear l h =
       h,
     )
 
-module _ (l : Legend) (stored : stored_refusal l ≡ Done) (cmap : length l.linear.cmap ≡ 256) (bands : length l.banded.bands ≡ 64) where
+module _ (l : Legend) (stored : stored_refusal l ≡ Ok tt) (cmap : length l.linear.cmap ≡ 256) (bands : length l.banded.bands ≡ 64) where
   length_in : (k : LegendKind) → l.kind ≡ k → length (entries_from k l) ≡ entries_length_in k l
   length_in kind.Linear e = length-linear l.linear cmap
   length_in kind.Banded e =
@@ -157,9 +152,14 @@ refusal_of_lengths title l buffer cmap bands =
     go (stored_refusal l)
     (λ stored. ap
     (λ (n : ℕ). refuse_if (not (in_order l)) CountAboveCapacity
-    (first_of (bounds_refusal l) (refuse_if (ltb 255 (length title) || ltb (length buffer) n) CardTooLong Done)))
+    (first_of (bounds_refusal l) (refuse_if (ltb 255 (length title) || ltb (length buffer) n) CardTooLong (Ok tt))))
     (sym (card_length_lem l stored cmap bands title)))
   where
-    go : (a : Answer) {b c : Answer} → (a ≡ Done → b ≡ c) → first_of a b ≡ first_of a c
-    go Done f = f refl
-    go (Refused why) f = refl
+    go : (a : Answer) {b c : Answer} → (a ≡ Ok tt → b ≡ c) → first_of a b ≡ first_of a c
+    go (Ok _) f = f refl
+    go (Err why) f = refl
+
+-- for the check's own search: the counts of a stored record, and the card's parts behind one another
+pub ruleset stored_counts = (bands-stored, stored_categories)
+
+pub ruleset laying_card = (overwritten_after, length_head, length-settings, length-append, card_parts, card_length_lem)

@@ -1,6 +1,6 @@
 // What the writer refuses, from the record and the lengths of title and buffer.
 ghost use Rattle.std.specs.Prelude.{◌≡◌, ◌≤◌, length, take};
-ghost use Rattle.refusal.specs.declared.Answer.TheVariants.{Done};
+ghost use Rattle.refusal.specs.Outcome.{Done};
 ghost use Rattle.legend.specs.Record.{stored_refusal};
 ghost use Rattle.card_layout.specs.Stored.{same_words, table_of_keys, in_order};
 ghost use Rattle.card_layout.specs.Refusals.{bounds_refusal};
@@ -8,48 +8,38 @@ ghost use Rattle.card_write.specs.forms.Length.{entries_length, lengths_refusal}
 
 use catgegoric::CategoricNumeric;
 use legend::{Legend, LegendKind};
-use refusal::{Answer, Refusal};
+use refusal::Refusal;
 
 // 16; 7; 20, in this order.
 #[tactic(auto, unfolding(crate::specs::forms::Length::lengths_refusal, crate::specs::forms::Length::card_length))]
-pub fn lengths_refusal(legend: Legend, title: usize, capacity: usize) -> Answer
+pub fn lengths_refusal(legend: Legend, title: usize, capacity: usize) -> Result<(), Refusal>
     ensures { result ≡ lengths_refusal title legend capacity }
 {
-    let stored = legend.stored_refusal();
-    if let Answer::Refused(_) = stored {
-        return stored;
-    }
+    legend.stored_refusal()?;
     if !in_order(legend) {
-        return Answer::Refused(Refusal::CountAboveCapacity);
+        return Err(Refusal::CountAboveCapacity);
     }
-    let bounds = bounds_refusal(legend);
-    if let Answer::Refused(_) = bounds {
-        return bounds;
-    }
+    bounds_refusal(legend)?;
     if title > 255 {
-        return Answer::Refused(Refusal::CardTooLong);
+        return Err(Refusal::CardTooLong);
     }
     if capacity < 22 + title + entries_length(legend) {
-        return Answer::Refused(Refusal::CardTooLong);
+        return Err(Refusal::CardTooLong);
     }
-    Answer::Done
+    Ok(())
 }
 
+#[tactic(auto, unfolding(card_layout::specs::Stored::in_order))]
 fn in_order(legend: Legend) -> bool
     requires { stored_refusal legend ≡ Done }
     ensures { result ≡ in_order legend }
 {
-    let kind = legend.kind;
-    match kind {
+    match legend.kind {
         LegendKind::Linear => true,
         LegendKind::Banded => true,
         LegendKind::CategoricNumeric => {
             let categoric = legend.categoric;
-            let keys = categoric.keys;
-            if !card_layout::keys_in_order(&keys, categoric.count) {
-                return false;
-            }
-            table_of_keys(categoric)
+            card_layout::keys_in_order(&categoric.keys, categoric.count) && table_of_keys(categoric)
         }
     }
 }
@@ -74,17 +64,15 @@ fn same_words(words: &[u32; 513], others: &[u32; 513], n: usize) -> bool
     requires { (n ≤ 513) × (length words.now ≡ 513) × (length others.now ≡ 513) }
     ensures { result ≡ same_words (take n words.now) (take n others.now) }
 {
-    let mut i: usize = 0;
-    while i < n {
+    for i in 0..n {
         if words[i] != others[i] {
             return false;
         }
-        i += 1;
     }
     true
 }
 
-fn bounds_refusal(legend: Legend) -> Answer
+fn bounds_refusal(legend: Legend) -> Result<(), Refusal>
     ensures { result ≡ bounds_refusal legend }
 {
     let kind = legend.kind;
@@ -93,8 +81,8 @@ fn bounds_refusal(legend: Legend) -> Answer
             let linear = legend.linear;
             linear::range_refusal(linear.start, linear.end)
         }
-        LegendKind::Banded => Answer::Done,
-        LegendKind::CategoricNumeric => Answer::Done,
+        LegendKind::Banded => Ok(()),
+        LegendKind::CategoricNumeric => Ok(()),
     }
 }
 

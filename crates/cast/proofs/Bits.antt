@@ -1,5 +1,6 @@
 -- `truncated` at an f32 from its bit pattern: what the code reads off the pattern, what the pattern stands for, and the ranges of the
 -- exponent's field that `to_i64` tells apart. Assumes nothing.
+use Rattle.std.specs.Prelude.{Some, None}
 use mathlib.Core.Path.{◌≡◌, refl, sym, ap, ◌∙◌, subst}
 use mathlib.Core.Logic.{inl, inr}
 use mathlib.Core.Bool.{Bool, true, false, cond}
@@ -18,7 +19,6 @@ use lib.Bits.{bit_and, bit_or, and_mask, or_shifted_r}
 use lib.Ieee.{Float, nan, inf, binary32, odd, of_fields, of_bits, to_bits, fits}
 use lib.Ieee.Bits.{cond_no, of_bits-to_bits, to_bits-lt}
 use lib.Ieee.Exact.{HasValue, odd_sign}
-use Rattle.cast.specs.declared.Truncated.TheVariants.{Whole, Outside}
 use Rattle.cast.specs.Truncated.{signed, truncated_fraction, truncated}
 use Rattle.cast.specs.forms.Pattern.{field, whole_part}
 use Rattle.cast.proofs.Value.{at_value, nothing, inside, outside}
@@ -100,14 +100,14 @@ read s (suc x) t h =
     back : (x : ℕ) → x ≡ suc x - 1
     back x = omega arith
 
-top : (s : Bool) (F t : ℕ) → F ≡ 255 → truncated (of_fields binary32 s F t) ≡ Outside
+top : (s : Bool) (F t : ℕ) → F ≡ 255 → truncated (of_fields binary32 s F t) ≡ None
 unfolding truncated
 top s F t h = ap (λ (k : ℕ). truncated (of_fields binary32 s k t)) h ∙ at_255 s t
   where
-    at_255 : (s : Bool) (t : ℕ) → truncated (of_fields binary32 s 255 t) ≡ Outside
+    at_255 : (s : Bool) (t : ℕ) → truncated (of_fields binary32 s 255 t) ≡ None
     at_255 s t = unfold of_fields in go (eqb t 0)
       where
-        go : (b : Bool) → truncated (cond b (inf s) nan) ≡ Outside
+        go : (b : Bool) → truncated (cond b (inf s) nan) ≡ None
         go true = refl
         go false = refl
 
@@ -158,7 +158,7 @@ module _ (x : Float) (f : T (fits binary32 x)) where
       ap truncated is ∙ at_value (of_fields binary32 s (field b) (b % 2 ^ 23)) s (mant (field b) (b % 2 ^ 23) * 2 ^ (field b - 1)) (2 ^ 149) (pow_pos 149)
       (read s (field b) (b % 2 ^ 23) h)
 
-  pub small : field b < 127 → truncated x ≡ Whole (pos 0)
+  pub small : field b < 127 → truncated x ≡ Some (pos 0)
   small h =
       at_bits (more (field b) h)
       ∙ nothing s (mant (field b) (b % 2 ^ 23) * 2 ^ (field b - 1)) (2 ^ 149)
@@ -173,19 +173,19 @@ module _ (x : Float) (f : T (fits binary32 x)) where
   at_digits : 127 ≤ field b → field b < 255 → truncated x ≡ truncated_fraction s (digits b * 2 ^ (field b - 1)) (2 ^ 149)
   at_digits h k = at_bits k ∙ ap (λ (m : ℕ). truncated_fraction s (m * 2 ^ (field b - 1)) (2 ^ 149)) (mant_is (field b) (b % 2 ^ 23) h)
 
-  pub middle : 127 ≤ field b → field b < 190 → truncated x ≡ Whole (signed s (whole_part b))
+  pub middle : 127 ≤ field b → field b < 190 → truncated x ≡ Some (signed s (whole_part b))
   middle h k = at_digits h (more (field b) k) ∙ inside s (digits b * 2 ^ (field b - 1)) (2 ^ 149) (size_lt b k)
     where
       more : (F : ℕ) → F < 190 → F < 255
       more F h = omega arith
 
-  pub edge : b ≡ 0xDF00_0000 → truncated x ≡ Whole (negsuc 9223372036854775807)
+  pub edge : b ≡ 0xDF00_0000 → truncated x ≡ Some (negsuc 9223372036854775807)
   edge h = ap truncated (sym (of_bits-to_bits binary32 x f) ∙ ap (λ (k : ℕ). of_bits binary32 k) h) ∙ closed
     where
-      closed : truncated (of_bits binary32 0xDF00_0000) ≡ Whole (negsuc 9223372036854775807)
+      closed : truncated (of_bits binary32 0xDF00_0000) ≡ Some (negsuc 9223372036854775807)
       closed = unfold of_bits truncated in refl
 
-  pub large : 190 ≤ field b → (b ≡ 0xDF00_0000 → ⊥) → truncated x ≡ Outside
+  pub large : 190 ≤ field b → (b ≡ 0xDF00_0000 → ⊥) → truncated x ≡ None
   large h n = elim (eq-or-lt_of_le (at_most b)) [ inl e ↦ ap truncated is ∙ top s (field b) (b % 2 ^ 23) e | inr l ↦ less l ]
     where
       at_most : (b : ℕ) → field b ≤ 255
@@ -197,7 +197,7 @@ module _ (x : Float) (f : T (fits binary32 x)) where
       digit : (b : ℕ) → 2 ^ 31 ≤ b → b < 2 ^ 32 → (b ≡ 3741319168 → ⊥) → field b ≡ 190 → 2 ^ 23 < digits b
       digit b p q n e = omega arith
 
-      less : field b < 255 → truncated x ≡ Outside
+      less : field b < 255 → truncated x ≡ None
       less l =
           at_digits (some (field b) h) l
           ∙ outside s (digits b * 2 ^ (field b - 1)) (2 ^ 149) (reaches (digits b) (field b) (le-add_right (2 ^ 23) (b % 2 ^ 23)) h)

@@ -1,5 +1,6 @@
 -- A whole number of size up to 2^24 becomes an f32 without loss: the f32 has exactly its value, is cut to it again, and is no other
 -- number's. So do all samples of u8 and i16. Assumes nothing.
+use Rattle.std.specs.Prelude.{Some}
 use mathlib.Core.Path.{◌≡◌, refl, ap, ◌∙◌}
 use mathlib.Core.Bool.{true, false, not}
 use Prim.Native.Nat.{ℕ, suc, ◌^◌, ◌≤◌}
@@ -13,7 +14,6 @@ use lib.Ieee.Exact.{HasValue}
 use lib.Ieee.Back.{round_whole}
 use mir.Syntax.{w8, w16}
 use mir.Val.{Fits, SFits}
-use Rattle.cast.specs.declared.Truncated.TheVariants.{Whole}
 use Rattle.cast.specs.Samples.{of_u8, of_i16}
 use Rattle.cast.specs.Truncated.{signed, truncated}
 use Rattle.cast.proofs.Value.{at_value, inside}
@@ -24,12 +24,12 @@ unfolding of_int
 exact (pos n) h = round_whole binary32 false n h
 exact (negsuc n) h = round_whole binary32 true (suc n) h
 
-pub back : (z : ℤ) → nat_abs z ≤ 2 ^ 24 → truncated (of_int binary32 z) ≡ Whole z
+pub back : (z : ℤ) → nat_abs z ≤ 2 ^ 24 → truncated (of_int binary32 z) ≡ Some z
 back z h =
     at_value (of_int binary32 z) (not (non_neg z)) (nat_abs z) 1 (lit< tt) (exact z h)
     ∙ inside (not (non_neg z)) (nat_abs z) 1 (lt_of_le_of_lt h (lit< tt))
-    ∙ ap (λ (n : ℕ). Whole (signed (not (non_neg z)) n)) (div-one (nat_abs z))
-    ∙ ap Whole (parts z)
+    ∙ ap (λ (n : ℕ). Some (signed (not (non_neg z)) n)) (div-one (nat_abs z))
+    ∙ ap Some (parts z)
   where
     parts : (z : ℤ) → signed (not (non_neg z)) (nat_abs z) ≡ z
     parts (pos n) = refl
@@ -51,10 +51,10 @@ u8-exact n h = exact (pos n) (u8_size n h)
 pub i16-exact : (z : ℤ) → SFits w16 z → HasValue (of_i16 z) (not (non_neg z)) (nat_abs z) 1
 i16-exact z h = exact z (i16_size z h)
 
-pub u8_back : (n : ℕ) → Fits w8 n → truncated (of_u8 n) ≡ Whole (pos n)
+pub u8_back : (n : ℕ) → Fits w8 n → truncated (of_u8 n) ≡ Some (pos n)
 u8_back n h = back (pos n) (u8_size n h)
 
-pub i16_back : (z : ℤ) → SFits w16 z → truncated (of_i16 z) ≡ Whole z
+pub i16_back : (z : ℤ) → SFits w16 z → truncated (of_i16 z) ≡ Some z
 i16_back z h = back z (i16_size z h)
 
 pub u8-one_to_one : (m n : ℕ) → Fits w8 m → Fits w8 n → of_u8 m ≡ of_u8 n → m ≡ n

@@ -1,5 +1,6 @@
 -- Which floats can meet a table of the words for 0 to 512: those above -1 and below 513. They are cut to their whole part, the negative
 -- ones to 0. Any other is cut to nothing, to a negative number, or to more than 512. Assumes nothing.
+use Rattle.std.specs.Prelude.{Option, Some, None}
 use mathlib.Core.Path.{◌≡◌, sym, ap, ◌∙◌}
 use mathlib.Core.Bool.{Bool, true, false, not, cond, ◌&&◌}
 use Prim.Native.Nat.{ℕ, zero, suc, ◌+◌, ◌*◌, ◌/◌, ◌≤◌, ◌<◌, min}
@@ -9,8 +10,6 @@ use lib.IntN.{ℤ, pos, negsuc, neg_ℤ}
 use lib.Dec.{T, ltb, ltb→lt, lt→ltb, nltb→le, lit<}
 use lib.Ieee.{Float, nan, inf, fin, binary32, up, down, of_bits, lt, to_unsigned}
 use lib.Ieee.Fits.{down_pos}
-use Rattle.cast.specs.declared.Truncated.{Truncated}
-use Rattle.cast.specs.declared.Truncated.TheVariants.{Whole, Outside}
 use Rattle.cast.specs.Truncated.{signed, fraction_in_i64, truncated_fraction, truncated}
 use Rattle.cast.proofs.Value.{nothing, inside}
 
@@ -65,7 +64,7 @@ uncapped n h = omega arith
 room : (a c : ℕ) → a < 513 * c → a < 9223372036854775808 * c
 room a c h = omega arith
 
-pub within : (x : Float) → T (lt minus_one x) → T (lt x table_end) → truncated x ≡ Whole (pos (to_unsigned 64 x))
+pub within : (x : Float) → T (lt minus_one x) → T (lt x table_end) → truncated x ≡ Some (pos (to_unsigned 64 x))
 unfolding of_bits lt truncated to_unsigned
 within nan h k = absurd h
 within (inf true) h k = absurd h
@@ -73,7 +72,7 @@ within (inf false) h k = absurd k
 within (fin true m e) h k = nothing true (m * up e) (down e) (above m e h)
 within (fin false m e) h k =
     inside false (m * up e) (down e) (room (m * up e) (down e) (below m e k))
-    ∙ sym (ap (λ (n : ℕ). Whole (pos n)) (uncapped (m * up e / down e) (part_lt (m * up e) (down e) (down_pos e) (below m e k))))
+    ∙ sym (ap (λ (n : ℕ). Some (pos n)) (uncapped (m * up e / down e) (part_lt (m * up e) (down e) (down_pos e) (below m e k))))
 
 pub within_lt : (x : Float) → T (lt minus_one x) → T (lt x table_end) → to_unsigned 64 x < 513
 unfolding of_bits lt to_unsigned
@@ -84,19 +83,19 @@ within_lt (fin true m e) h k = lit< tt
 within_lt (fin false m e) h k = let l = part_lt (m * up e) (down e) (down_pos e) (below m e k) in omega arith
 
 -- ---- any other
-abbrev pub Missed : Truncated → Type 0
-Missed Outside = Unit
-Missed (Whole (pos n)) = 512 < n
-Missed (Whole (negsuc n)) = Unit
+abbrev pub Missed : Option ℤ → Type 0
+Missed None = Unit
+Missed (Some (pos n)) = 512 < n
+Missed (Some (negsuc n)) = Unit
 
-missed_cut : (s : Bool) (a c : ℕ) → Missed (Whole (signed s (a / c))) → Missed (truncated_fraction s a c)
+missed_cut : (s : Bool) (a c : ℕ) → Missed (Some (signed s (a / c))) → Missed (truncated_fraction s a c)
 missed_cut s a c h = go (fraction_in_i64 s a c)
   where
-    go : (b : Bool) → Missed (cond b (Whole (signed s (a / c))) Outside)
+    go : (b : Bool) → Missed (cond b (Some (signed s (a / c))) None)
     go true = h
     go false = tt
 
-negative : (n : ℕ) → 1 ≤ n → Missed (Whole (neg_ℤ (pos n)))
+negative : (n : ℕ) → 1 ≤ n → Missed (Some (neg_ℤ (pos n)))
 negative zero h = omega arith
 negative (suc n) h = tt
 

@@ -1,4 +1,5 @@
 -- `truncated` sees only the value of a float: what it is at a float that is a / c in size, by where a / c lies. Assumes nothing.
+use Rattle.std.specs.Prelude.{Some, None}
 use mathlib.Core.Path.{◌≡◌, refl, sym, ap, ◌∙◌}
 use mathlib.Core.Bool.{Bool, true, false, cond}
 use Prim.Native.Nat.{ℕ, ◌*◌, ◌/◌, ◌^◌, ◌≤◌, ◌<◌}
@@ -12,7 +13,6 @@ use lib.Ieee.{Float, fin, up, down}
 use lib.Ieee.Fits.{down_pos}
 use lib.Ieee.Bits.{is_true, is_false}
 use lib.Ieee.Exact.{HasValue}
-use Rattle.cast.specs.declared.Truncated.TheVariants.{Whole, Outside}
 use Rattle.cast.specs.Truncated.{signed, fraction_in_i64, truncated_fraction, truncated}
 
 -- ---- a fraction may be written with other terms
@@ -40,8 +40,8 @@ in_times false a c p P = ltb_times a (2 ^ 63 * c) p P ∙ ap (λ (k : ℕ). ltb 
 
 cut_times : (s : Bool) (a c p : ℕ) → 0 < p → truncated_fraction s a c ≡ truncated_fraction s (a * p) (c * p)
 cut_times s a c p P =
-    ap (λ (b : Bool). cond b (Whole (signed s (a / c))) Outside) (in_times s a c p P)
-    ∙ ap (λ (k : ℕ). cond (fraction_in_i64 s (a * p) (c * p)) (Whole (signed s k)) Outside) (sym (mul-div-mul_right a c P))
+    ap (λ (b : Bool). cond b (Some (signed s (a / c))) None) (in_times s a c p P)
+    ∙ ap (λ (k : ℕ). cond (fraction_in_i64 s (a * p) (c * p)) (Some (signed s k)) None) (sym (mul-div-mul_right a c P))
 
 cut_same : (s : Bool) (n d a c : ℕ) → 0 < d → 0 < c → n * c ≡ a * d → truncated_fraction s n d ≡ truncated_fraction s a c
 cut_same s n d a c D C e =
@@ -57,16 +57,16 @@ at_value lib.Ieee.nan s a c C h = elim h [ ]
 at_value (lib.Ieee.inf _) s a c C h = elim h [ ]
 
 -- ---- below 2^63 in size, and from there on
-pub inside : (s : Bool) (a c : ℕ) → a < 2 ^ 63 * c → truncated_fraction s a c ≡ Whole (signed s (a / c))
-inside s a c h = ap (λ (b : Bool). cond b (Whole (signed s (a / c))) Outside) (in_range_lem s)
+pub inside : (s : Bool) (a c : ℕ) → a < 2 ^ 63 * c → truncated_fraction s a c ≡ Some (signed s (a / c))
+inside s a c h = ap (λ (b : Bool). cond b (Some (signed s (a / c))) None) (in_range_lem s)
   where
     in_range_lem : (s : Bool) → fraction_in_i64 s a c ≡ true
     in_range_lem true = is_true (leb a (2 ^ 63 * c)) (le→leb a (2 ^ 63 * c) (le_of_lt h))
     in_range_lem false = is_true (ltb a (2 ^ 63 * c)) (lt→ltb a (2 ^ 63 * c) h)
 
 -- below 1
-pub nothing : (s : Bool) (a c : ℕ) → a < c → truncated_fraction s a c ≡ Whole (pos 0)
-nothing s a c h = inside s a c (more a c h) ∙ ap (λ (n : ℕ). Whole (signed s n)) (div-eq_of_lt h) ∙ ap Whole (no_sign s)
+pub nothing : (s : Bool) (a c : ℕ) → a < c → truncated_fraction s a c ≡ Some (pos 0)
+nothing s a c h = inside s a c (more a c h) ∙ ap (λ (n : ℕ). Some (signed s n)) (div-eq_of_lt h) ∙ ap Some (no_sign s)
   where
     more : (a c : ℕ) → a < c → a < 9223372036854775808 * c
     more a c h = omega arith
@@ -76,8 +76,8 @@ nothing s a c h = inside s a c (more a c h) ∙ ap (λ (n : ℕ). Whole (signed 
     no_sign false = refl
 
 -- -2^63 itself is not outside
-pub outside : (s : Bool) (a c : ℕ) → 2 ^ 63 * c ≤ a → (T s → 2 ^ 63 * c < a) → truncated_fraction s a c ≡ Outside
-outside s a c h k = ap (λ (b : Bool). cond b (Whole (signed s (a / c))) Outside) (out_of_range s k)
+pub outside : (s : Bool) (a c : ℕ) → 2 ^ 63 * c ≤ a → (T s → 2 ^ 63 * c < a) → truncated_fraction s a c ≡ None
+outside s a c h k = ap (λ (b : Bool). cond b (Some (signed s (a / c))) None) (out_of_range s k)
   where
     out_of_range : (s : Bool) → (T s → 2 ^ 63 * c < a) → fraction_in_i64 s a c ≡ false
     out_of_range true k = is_false (leb a (2 ^ 63 * c)) (lt→nleb a (2 ^ 63 * c) (k tt))

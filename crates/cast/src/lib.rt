@@ -19,20 +19,6 @@ pub fn i16_to_f32(x: i16) -> f32
     x as f32
 }
 
-// The sample value that stands for no data, where one is given: converted as a sample, so that it equals the samples it stands for.
-#[derive(Clone, Copy)]
-pub enum Nodata {
-    Value(f32),
-    Absent,
-}
-
-// A float cut toward zero, where that is an i64.
-#[derive(Clone, Copy)]
-pub enum Truncated {
-    Whole(i64),
-    Outside,
-}
-
 // The whole part of the size of the float with these bits: the digits below their leading one, shifted.
 // It has a `requires` because it is a part of `to_i64`, which alone calls it and has dealt with the other fields:
 // below 127 the shift can exceed the width, and from 190 on the result is no i64.
@@ -49,28 +35,28 @@ fn magnitude(bits: u32) -> u64
     }
 }
 
-// From the bits: the sign, the exponent's field and the digits. Below field 127 the size is below 1, from 190 on
+// A float cut toward zero, where that is an i64. From the bits: the sign, the exponent's field and the digits. Below field 127 the size is below 1, from 190 on
 // it is at least 2^63, of which -2^63 alone is an i64.
-pub fn to_i64(x: f32) -> Truncated
+pub fn to_i64(x: f32) -> Option<i64>
     ensures { result ≡ truncated x }
 {
     if x != x {
-        return Truncated::Outside;
+        return None;
     }
     let bits: u32 = f32::to_bits(x);
     let exponent: u32 = (bits >> 23) & 255;
     if exponent < 127 {
-        return Truncated::Whole(0);
+        return Some(0);
     }
     if exponent >= 190 {
         if bits == 0xDF00_0000 {
-            return Truncated::Whole(-9223372036854775808);
+            return Some(-9223372036854775808);
         }
-        return Truncated::Outside;
+        return None;
     }
     let size: i64 = magnitude(bits) as i64;
     if bits >= 0x8000_0000 {
-        return Truncated::Whole(0 - size);
+        return Some(0 - size);
     }
-    Truncated::Whole(size)
+    Some(size)
 }

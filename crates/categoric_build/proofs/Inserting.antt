@@ -1,14 +1,18 @@
 -- Putting a category in: by its place among the keys, and in the arrays that hold the categories. Assumes nothing.
-use mathlib.Core.Bool.{Bool, true, false, cond}
+use mathlib.Core.Bool.{Bool, true, false, cond, not}
+use Rattle.std.specs.List.{position, position_or_len}
+use Rattle.std.specs.Option.{unwrap_or}
+use Rattle.std.proofs.Common.{Some, None}
+use lib.Dec.{ltb}
 use mathlib.Core.List.{List, [], ◌∷◌, ◌++◌, map}
 use mathlib.Core.Path.{◌≡◌, refl, sym, ap, ap₂, ◌∙◌, subst}
 use Prim.Native.Nat.{ℕ, zero, suc, ◌+◌, ◌≤◌, ◌<◌}
 use native.Mathlib.Numerals.{add-one}
 use native.Mathlib.Omega.{arith}
-use borrow.Author.Tests.{not-true, not-false}
+use borrow.Author.Tests.{not-true, not-false, ltb-false}
 use lib.IntN.{ℤ, pos}
 use lib.ListN.{length, get_or, take, drop, set, replicate, length-append, length-drop, length-map}
-use lib.Seq.{drop-cons, length-take-le, get_or-take}
+use lib.Seq.{length-take-le, get_or-take}
 use lib.Signed.{lt_z, le_z}
 use Rattle.lists.specs.Padded.{padded}
 use Rattle.lists.proofs.Padding.{length-padded, padded-none, take-padded}
@@ -41,44 +45,23 @@ module _ (key : ℤ) where
       go true h = omega arith
       go false h = omega arith
 
-  -- a search among the counted keys that has come to `at`
-  module _ (keys : List ℤ) (count at : ℕ) (long : length keys ≡ 256) (few : count ≤ 256)
-      (so_far : insertion_index key (take count keys) ≡ at + insertion_index key (drop at (take count keys))) where
-    long_enough : length (take count keys) ≡ count
-    long_enough = length-take-le count keys (omega arith)
+  place_is : (ks : List ℤ) → position_or_len (le_z key) ks ≡ insertion_index key ks
+  unfolding insertion_index
+  place_is [] = refl
+  place_is (k ∷ ks) = ap₂ (λ (t : Bool) (n : ℕ). cond t n 0) (ap not (le_is key k) ∙ twice (lt_z k key)) (omega (arith, place_is ks))
+    where
+      twice : (t : Bool) → not (not t) ≡ t
+      twice true = refl
+      twice false = refl
 
-    rest_is : at < count → insertion_index key (drop at (take count keys)) ≡ insertion_index key (get_or keys at (pos 0) ∷ drop (suc at) (take count keys))
-    rest_is h =
-        ap (insertion_index key) (drop-cons (take count keys) at (pos 0) (omega (arith, long_enough)) ∙ ap (λ (k : ℤ). k ∷ drop (suc at) (take count keys))
-        (get_or-take count keys at (pos 0) h))
-
-    pub place_found : at < count → le_z key (get_or keys at (pos 0)) ≡ true → at ≡ insertion_index key (take count keys)
-    place_found h e =
-        omega (
-          arith,
-          so_far,
-          rest_is h,
-          place_first (get_or keys at (pos 0)) (drop (suc at) (take count keys))
-              (not-true (lt_z (get_or keys at (pos 0)) key) (sym (le_is key (get_or keys at (pos 0))) ∙ e)),
-        )
-
-    pub place_passed : at < count → le_z key (get_or keys at (pos 0)) ≡ false → insertion_index key (take count keys) ≡ at + 1 + insertion_index key
-        (drop (at + 1) (take count keys))
-    place_passed h e =
-        omega (
-          arith,
-          so_far,
-          rest_is h,
-          place_after (get_or keys at (pos 0)) (drop (suc at) (take count keys))
-              (not-false (lt_z (get_or keys at (pos 0)) key) (sym (le_is key (get_or keys at (pos 0))) ∙ e)),
-          ap (λ (n : ℕ). insertion_index key (drop n (take count keys)))
-              (add-one at),
-        )
-
-    pub place_ended : at ≤ count → count ≤ at → at ≡ insertion_index key (take count keys)
-    place_ended h g =
-        let e : at ≡ length (take count keys) = omega (arith, long_enough) in
-        omega (arith, so_far, ap (λ (n : ℕ). insertion_index key (drop n (take count keys))) e, place_none (take count keys))
+  -- the first key that is not below it, or else the end
+  pub place_found : (ks : List ℤ) → unwrap_or (position (le_z key) ks) (length ks) ≡ insertion_index key ks
+  place_found ks = go (ltb (position_or_len (le_z key) ks) (length ks)) refl
+    where
+      go : (t : Bool) → ltb (position_or_len (le_z key) ks) (length ks) ≡ t
+          → unwrap_or (cond t (Some (position_or_len (le_z key) ks)) None) (length ks) ≡ insertion_index key ks
+      go true e = place_is ks
+      go false e = omega (arith, ltb-false (position_or_len (le_z key) ks) (length ks) e, place_is ks, place_≤ ks)
 
   pub place_count : (keys : List ℤ) (count : ℕ) → length keys ≡ 256 → count ≤ 256 → insertion_index key (take count keys) ≤ count
   place_count keys count long few = omega (arith, place_≤ (take count keys), length-take-le count keys (omega arith))
@@ -240,16 +223,12 @@ length-first_of zero keys colors = omega arith
 length-first_of (suc n) keys colors =
     omega (arith, length_inserted (get_or keys n (pos 0)) (get_or colors n 0) (inserted_up_to n keys colors), length-first_of n keys colors)
 
--- one more of what is given in arrays
-pub holds_next : {keys : List ℤ} {colors : List ℕ} {count : ℕ} (n i : ℕ) (given : List ℤ) (words : List ℕ) (key : ℤ) → i < n → key ≡ get_or given i (pos 0)
-    → HoldsCategories (inserted key (get_or words i 0) (inserted_up_to i (take n given) (take n words))) keys colors count
-    → HoldsCategories (inserted_up_to (i + 1) (take n given) (take n words)) keys colors count
+-- one more of what is given
+pub holds_next : {keys : List ℤ} {colors : List ℕ} {count : ℕ} (i : ℕ) (given : List ℤ) (words : List ℕ) (key : ℤ) → key ≡ get_or given i (pos 0)
+    → HoldsCategories (inserted key (get_or words i 0) (inserted_up_to i given words)) keys colors count
+    → HoldsCategories (inserted_up_to (i + 1) given words) keys colors count
 unfolding inserted_up_to
-holds_next {keys} {colors} {count} n i given words key h e s =
-    subst (λ cs. HoldsCategories cs keys colors count)
-    (ap₂ (λ k x. inserted k x (inserted_up_to i (take n given) (take n words))) (e ∙ sym (get_or-take n given i (pos 0) h)) (sym (get_or-take n words i 0 h))
-    ∙ sym (ap (λ (m : ℕ). inserted_up_to m (take n given) (take n words)) (add-one i)))
-    s
+holds_next i given words key e s = rw (add-one, ← e) s
 
 -- the lengths of the arrays
 module _ {cs : List Category} {keys : List ℤ} {colors : List ℕ} {count : ℕ} (s : HoldsCategories cs keys colors count) (h : length cs ≤ 256) where

@@ -3,7 +3,12 @@
 use mathlib.Core.Bool.{Bool, true, false, cond, not, ◌&&◌}
 use mathlib.Core.List.{List, [], ◌++◌}
 use mathlib.Core.Logic.{◌⊎◌, inl, inr}
-use mathlib.Core.Path.{◌≡◌, refl, sym, ap, ap₂, ◌∙◌, subst}
+use mathlib.Core.Path.{◌≡◌, refl, sym, ap, ◌∙◌, subst}
+use Rattle.std.proofs.Common.{◌≢◌}
+use lib.Dec.{T}
+use lib.IntN.{nat_abs}
+use lib.Signed.{non_neg}
+use Rattle.categoric_lists.proofs.Numbers.{cast_is, cast_may}
 use Prim.Native.Nat.{ℕ, zero, suc, ◌+◌, ◌-◌, ◌≤◌, ◌<◌}
 use native.Mathlib.Nat.{le_of_suc-le-suc, eq-or-lt_of_le}
 use native.Mathlib.Numerals.{add-one}
@@ -11,8 +16,8 @@ use native.Mathlib.Omega.{arith}
 use borrow.Author.Tests.{not-true, lt-ltb, le-ltb, ltb-true}
 use lib.Dec.{ltb}
 use lib.IntN.{ℤ, pos, negsuc}
-use lib.ListN.{length, get_or, take, set, replicate, length-set, length-replicate, replicate-append-replicate}
-use lib.Seq.{set-append_left, get_or-take, length-take-le}
+use lib.ListN.{length, get_or, set, replicate, length-set, length-replicate, replicate-append-replicate}
+use lib.Seq.{set-append_left}
 use lib.Signed.{lt_z, le_z}
 use Rattle.lists.specs.Padded.{padded}
 use Rattle.lists.proofs.Padding.{padded-none}
@@ -21,21 +26,17 @@ use Rattle.categoric_build.specs.Table.{foremost, smallest, largest, has_table, 
 use Rattle.categoric_lists.proofs.Numbers.{below, lt_yes, lt_no, le_is, not_negative, up_to, both}
 
 -- ---- the foremost key
-module _ (before : ℤ → ℤ → Bool) (keys : List ℤ) (count i : ℕ) (h : i < count) where
-  next : (t : Bool) → before (get_or keys i (pos 0)) (foremost before i (take count keys)) ≡ t → foremost before (i + 1) (take count keys)
-      ≡ cond t (get_or keys i (pos 0)) (foremost before i (take count keys))
+module _ (before : ℤ → ℤ → Bool) (keys : List ℤ) (i : ℕ) where
+  next : (t : Bool) → before (get_or keys i (pos 0)) (foremost before i keys) ≡ t → foremost before (i + 1) keys ≡ cond t (get_or keys i (pos 0)) (foremost before i keys)
   unfolding foremost
   next t e =
-      ap (λ (m : ℕ). foremost before m (take count keys)) (add-one i)
-      ∙ ap (λ (k : ℤ). cond (before k (foremost before i (take count keys))) k (foremost before i (take count keys))) (get_or-take count keys i (pos 0) h)
-      ∙ ap (λ (u : Bool). cond u (get_or keys i (pos 0)) (foremost before i (take count keys))) e
+      ap (λ (m : ℕ). foremost before m keys) (add-one i) ∙ ap (λ (u : Bool). cond u (get_or keys i (pos 0)) (foremost before i keys)) e
 
-  -- a turn of the search among the counted keys
-  pub foremost_new : before (get_or keys i (pos 0)) (foremost before i (take count keys)) ≡ true → get_or keys i (pos 0) ≡ foremost before (i + 1) (take count keys)
+  -- a turn of the search
+  pub foremost_new : before (get_or keys i (pos 0)) (foremost before i keys) ≡ true → get_or keys i (pos 0) ≡ foremost before (i + 1) keys
   foremost_new e = sym (next true e)
 
-  pub foremost_kept : before (get_or keys i (pos 0)) (foremost before i (take count keys)) ≡ false → foremost before i (take count keys)
-      ≡ foremost before (i + 1) (take count keys)
+  pub foremost_kept : before (get_or keys i (pos 0)) (foremost before i keys) ≡ false → foremost before i keys ≡ foremost before (i + 1) keys
   foremost_kept e = sym (next false e)
 
 -- not above
@@ -190,26 +191,36 @@ module _ (keys : List ℤ) (colors : List ℕ) where
       ∙ ap (λ (n : ℕ). w ++ replicate (513 - n) 0) (sym l)
       ∙ sym (ap (λ (t : Bool). (cond t w []) ++ replicate (513 - length (cond t w [])) 0) e)
 
--- ---- one of the counted keys
-module _ (keys : List ℤ) (count : ℕ) (long : length keys ≡ 256) (few : count ≤ 256) (t : has_table (take count keys) ≡ true) (i : ℕ) (h : i < count) where
-  is : get_or (take count keys) i (pos 0) ≡ get_or keys i (pos 0)
-  is = get_or-take count keys i (pos 0) h
+-- ---- one of the keys, as an index of the table
+module _ (keys : List ℤ) (size : ℕ) (is : size ≡ table_size keys) (some : size ≢ 0) (i : ℕ) (h : i < length keys) where
+  tabled : has_table keys ≡ true
+  tabled = sized keys (λ e. some (is ∙ e))
 
-  counted : i < length (take count keys)
-  counted = omega (arith, length-take-le count keys (omega arith))
+  pub index_may : T (non_neg (get_or keys i (pos 0)))
+  index_may = cast_may (get_or keys i (pos 0)) (key_from_0 keys tabled i h)
 
-  pub index_from_0 : below (get_or keys i (pos 0)) ≡ 0
-  index_from_0 = sym (ap below is) ∙ key_from_0 (take count keys) t i counted
+  index_is : nat_abs (get_or keys i (pos 0)) ≡ whole (get_or keys i (pos 0))
+  index_is = cast_is (get_or keys i (pos 0)) (key_from_0 keys tabled i h)
 
-  pub index_in_table : whole (get_or keys i (pos 0)) < 513
-  index_in_table = omega (arith, ap whole is, key-in_table (take count keys) t i counted, size_≤ (take count keys) t)
+  pub index_in_table : nat_abs (get_or keys i (pos 0)) < 513
+  index_in_table = omega (arith, index_is, key-in_table keys tabled i h, size_≤ keys tabled)
 
-  pub word_written : (colors words : List ℕ) → set (written i (take count keys) (take count colors) words) (whole (get_or keys i (pos 0))) (get_or colors i 0)
-      ≡ written (i + 1) (take count keys) (take count colors) words
+  pub word_written : (colors words : List ℕ) → set (written i keys colors words) (nat_abs (get_or keys i (pos 0))) (get_or colors i 0) ≡ written (i + 1) keys colors words
   unfolding written
-  word_written colors words =
-      ap₂ (λ (n : ℤ) (x : ℕ). set (written i (take count keys) (take count colors) words) (whole n) x) (sym is) (sym (get_or-take count colors i 0 h))
-      ∙ sym (ap (λ (m : ℕ). written m (take count keys) (take count colors) words) (add-one i))
+  word_written colors words = rw (add-one, index_is)
+
+-- the words of all keys, or of none
+pub looked_up : (keys : List ℤ) (colors : List ℕ) (size : ℕ) → size ≡ table_size keys → size ≢ 0 → (i : ℕ) → i ≡ length keys
+    → written i keys colors (replicate 513 0) ≡ padded 0 513 (table keys colors)
+looked_up keys colors size is some i e = ap (λ (n : ℕ). written n keys colors (replicate 513 0)) e ∙ a-table keys colors (sized keys (λ q. some (is ∙ q)))
+
+pub not_looked_up : (keys : List ℤ) (colors : List ℕ) (size : ℕ) → size ≡ table_size keys → size ≡ 0 → replicate 513 0 ≡ padded 0 513 (table keys colors)
+not_looked_up keys colors size is e = no_table keys colors (unsized keys (sym is ∙ e))
+
+-- what `create_fast_lookup` needs of a table, and what a search for the foremost key needs
+pub ruleset lookups = (index_may, index_in_table, word_written, looked_up, not_looked_up)
+
+pub ruleset searches = (foremost_new, foremost_kept)
 
 -- ---- the table of any keys
 pub size_few : (keys : List ℤ) → table_size keys ≤ 513

@@ -2,7 +2,7 @@
 ghost use Rattle.std.specs.Prelude.{◌≡◌, ◌≤◌, ◌<◌, length, take, set};
 ghost use Rattle.categoric_build.specs.forms.Insertion.{insertion_index, shifted_up, Inserted};
 
-// One category more, or another colour for its key; the count after it.
+// One category more, or another colour for its key; the count after it. Two arrays and a count, since they are what the record holds for C.
 pub fn insert(
     keys: &mut [i64; 256],
     colors: &mut [u32; 256],
@@ -13,12 +13,10 @@ pub fn insert(
     requires { (count < 256) × (length keys.old ≡ 256) × (length colors.old ≡ 256) }
     ensures { Inserted key color keys.old colors.old count keys.new colors.new result }
 {
-    let at = insertion_index(keys, count, key);
-    if at < count {
-        if keys[at] <= key {
-            store(keys, colors, at, key, color);
-            return count;
-        }
+    let at = insertion_index(&keys[..count], key);
+    if at < count && keys[at] <= key {
+        store(keys, colors, at, key, color);
+        return count;
     }
     shift_up(keys, colors, at, count);
     store(keys, colors, at, key, color);
@@ -26,34 +24,22 @@ pub fn insert(
 }
 
 // The first place whose key is not below the key.
-fn insertion_index(keys: &[i64; 256], count: usize, key: i64) -> usize
-    requires { (count ≤ 256) × (length keys.now ≡ 256) }
-    ensures { result ≡ insertion_index key (take count keys.now) }
+fn insertion_index(keys: &[i64], key: i64) -> usize
+    ensures { result ≡ insertion_index key keys.now }
 {
-    let mut at: usize = 0;
-    while at < count {
-        if keys[at] >= key {
-            return at;
-        }
-        at += 1;
-    }
-    at
+    keys.iter()
+        .position(|other| *other >= key)
+        .unwrap_or(keys.len())
 }
 
 // Makes room at a place.
+#[tactic(auto, using(crate::proofs::Rooms::copied_up))]
 fn shift_up(keys: &mut [i64; 256], colors: &mut [u32; 256], at: usize, count: usize)
     requires { (at ≤ count) × (count < 256) × (length keys.old ≡ 256) × (length colors.old ≡ 256) }
     ensures { (keys.new ≡ shifted_up at count keys.old) × (colors.new ≡ shifted_up at count colors.old) }
 {
-    let mut i = count;
-    while i > at {
-        let below = i - 1;
-        let key = keys[below];
-        let color = colors[below];
-        keys[i] = key;
-        colors[i] = color;
-        i = below;
-    }
+    keys.copy_within(at..count, at + 1);
+    colors.copy_within(at..count, at + 1);
 }
 
 fn store(keys: &mut [i64; 256], colors: &mut [u32; 256], at: usize, key: i64, color: u32)

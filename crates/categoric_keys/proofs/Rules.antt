@@ -1,4 +1,5 @@
 -- A record's colour is that of its table, or without one that of its keys; its lanes are looked up as its samples are. Assumes nothing.
+use Rattle.std.specs.Prelude.{Option, Some, None}
 use mathlib.Core.Path.{◌≡◌, refl, sym, ap, ◌∙◌}
 use mathlib.Core.Bool.{Bool, true, false, cond}
 use mathlib.Core.List.{List, []}
@@ -11,25 +12,23 @@ use lib.ListN.{get_or}
 use mir.Syntax.{w64}
 use mir.Val.{SFits, of_z, to_z}
 use mir.ValLaws.{to_z-of_z}
-use Rattle.cast.specs.declared.Truncated.{Truncated}
-use Rattle.cast.specs.declared.Truncated.TheVariants.{Whole, Outside}
 use Rattle.cast.specs.Truncated.{truncated}
 use Rattle.colormapper.specs.Rule.{Rule, word, category, unknown, rule_color}
 use Rattle.categoric_table.specs.Rule.{table_rule, categoric_rule_colors, table_color}
 use Rattle.categoric_keys.specs.Rule.{eq_z, first_key, key_rule, plain_rule, plain_color, key_color}
 
 -- a table has no entries, and keys have no words
-table_only : (lookup xs ys : List ℕ) (size nodata : ℕ) (t : Truncated)
+table_only : (lookup xs ys : List ℕ) (size nodata : ℕ) (t : (Option ℤ))
     → rule_color (categoric_rule_colors lookup xs nodata) (table_rule size t) ≡ rule_color (categoric_rule_colors lookup ys nodata) (table_rule size t)
 unfolding table_rule
-table_only lookup xs ys size nodata (Whole (pos n)) = go (ltb n size)
+table_only lookup xs ys size nodata (Some (pos n)) = go (ltb n size)
   where
     go : (b : Bool) → rule_color (categoric_rule_colors lookup xs nodata) (cond b (word n) unknown) ≡ rule_color (categoric_rule_colors lookup ys nodata)
         (cond b (word n) unknown)
     go true = refl
     go false = refl
-table_only lookup xs ys size nodata (Whole (negsuc n)) = refl
-table_only lookup xs ys size nodata Outside = refl
+table_only lookup xs ys size nodata (Some (negsuc n)) = refl
+table_only lookup xs ys size nodata None = refl
 
 entry_or : (xs ys colors : List ℕ) (nodata k : ℕ) (b : Bool) (r : Rule)
     → rule_color (categoric_rule_colors xs colors nodata) r ≡ rule_color (categoric_rule_colors ys colors nodata) r
@@ -45,11 +44,11 @@ first_only xs ys colors nodata keys z k (suc n) =
     entry_or xs ys colors nodata k (eq_z (get_or keys k (pos 0)) z) (first_key keys z (suc k) n)
     (first_only xs ys colors nodata keys z (suc k) n)
 
-key_only : (xs ys colors : List ℕ) (nodata : ℕ) (keys : List ℤ) (count : ℕ) (t : Truncated)
+key_only : (xs ys colors : List ℕ) (nodata : ℕ) (keys : List ℤ) (count : ℕ) (t : (Option ℤ))
     → rule_color (categoric_rule_colors xs colors nodata) (key_rule keys count t) ≡ rule_color (categoric_rule_colors ys colors nodata) (key_rule keys count t)
 unfolding key_rule
-key_only xs ys colors nodata keys count (Whole z) = first_only xs ys colors nodata keys z 0 count
-key_only xs ys colors nodata keys count Outside = refl
+key_only xs ys colors nodata keys count (Some z) = first_only xs ys colors nodata keys z 0 count
+key_only xs ys colors nodata keys count None = refl
 
 module _ (keys : List ℤ) (colors : List ℕ) (count : ℕ) (lookup : List ℕ) (size nodata : ℕ) where
   pub with_table : 0 < size → (v : Float) → table_color lookup size nodata v ≡ plain_color keys colors count lookup size nodata v
@@ -65,14 +64,14 @@ module _ (keys : List ℤ) (colors : List ℕ) (count : ℕ) (lookup : List ℕ)
 
 -- the colour by the keys: of a sample truncated to z, which the code hands on by its bits, and of one outside
 module _ (keys : List ℤ) (colors : List ℕ) (count nodata : ℕ) (v : Float) where
-  pub by_key : (z : ℤ) → SFits w64 z → truncated v ≡ Whole z → {r : ℕ}
+  pub by_key : (z : ℤ) → SFits w64 z → truncated v ≡ Some z → {r : ℕ}
       → r ≡ rule_color (categoric_rule_colors [] colors nodata) (first_key keys (to_z w64 (of_z w64 z)) 0 count) → r ≡ key_color keys colors count nodata v
   unfolding key_color key_rule
   by_key z f e h =
       h
       ∙ ap (λ (y : ℤ). rule_color (categoric_rule_colors [] colors nodata) (first_key keys y 0 count)) (to_z-of_z w64 z f)
-      ∙ sym (ap (λ (t : Truncated). rule_color (categoric_rule_colors [] colors nodata) (key_rule keys count t)) e)
+      ∙ sym (ap (λ (t : (Option ℤ)). rule_color (categoric_rule_colors [] colors nodata) (key_rule keys count t)) e)
 
-  pub by_no_key : truncated v ≡ Outside → nodata ≡ key_color keys colors count nodata v
+  pub by_no_key : truncated v ≡ None → nodata ≡ key_color keys colors count nodata v
   unfolding key_color key_rule
-  by_no_key e = sym (ap (λ (t : Truncated). rule_color (categoric_rule_colors [] colors nodata) (key_rule keys count t)) e)
+  by_no_key e = sym (ap (λ (t : (Option ℤ)). rule_color (categoric_rule_colors [] colors nodata) (key_rule keys count t)) e)

@@ -1,8 +1,6 @@
 -- How a categoric legend looks up a sample without a table, and as stored, with one or without, and the colour that this gives (docs/RULES.md, "Categoric" and
 -- "Painting"). Definitions only.
-use Rattle.std.specs.Prelude.{ℕ, zero, suc, Bool, false, cond, List, [], eqb, ltb, ℤ, pos, negsuc, Float, get_or}
-use Rattle.cast.specs.declared.Truncated.{Truncated}
-use Rattle.cast.specs.declared.Truncated.TheVariants.{Whole, Outside}
+use Rattle.std.specs.Prelude.{Option, Some, None, ℕ, zero, suc, Bool, false, cond, List, [], eqb, ltb, ℤ, pos, negsuc, Float, get_or}
 use Rattle.cast.specs.Truncated.{truncated}
 use Rattle.colormapper.specs.Rule.{Rule, category, unknown, rule_color}
 use Rattle.categoric_table.specs.Rule.{table_rule, categoric_rule_colors}
@@ -20,9 +18,9 @@ first_key keys z k zero = unknown
 first_key keys z k (suc n) = cond (eq_z (get_or keys k (pos 0)) z) (category k) (first_key keys z (suc k) n)
 
 -- without a table: the first entry with the key, of those counted
-unfoldable pub key_rule : (keys : List ℤ) (count : ℕ) → Truncated → Rule
-key_rule keys count (Whole z) = first_key keys z 0 count
-key_rule keys count Outside = unknown
+unfoldable pub key_rule : (keys : List ℤ) (count : ℕ) → Option ℤ → Rule
+key_rule keys count (Some z) = first_key keys z 0 count
+key_rule keys count None = unknown
 
 -- a record as stored: its table if it has one (a size above 0), else its keys
 unfoldable pub plain_rule : (keys : List ℤ) (count size : ℕ) → Float → Rule

@@ -1,10 +1,8 @@
 -- Which keys are refused (docs/RULES.md, "Where each call says no", 17). Definitions only.
 use Rattle.std.specs.Prelude.{ℕ, suc, Bool, ◌||◌, List, [], ◌∷◌, ℤ, pos, negsuc}
+use Rattle.refusal.specs.Outcome.{Answer, Done, refuse_if}
 use Rattle.std.specs.Int.Signed.{lt_z}
 use Rattle.refusal.specs.declared.Refusal.TheVariants.{KeyOutOfRange}
-use Rattle.refusal.specs.declared.Answer.{Answer}
-use Rattle.refusal.specs.declared.Answer.TheVariants.{Done}
-use Rattle.refusal.specs.Outcome.{refuse_if}
 
 -- outside -16,777,216 to 16,777,216 (negsuc n is -(n + 1))
 abbrev pub outside : ℤ → Bool

@@ -1,7 +1,7 @@
 // The keys that a builder is given, in arrays of 256: those of a list and those of a range, and which are refused (docs/RULES.md, "Categoric").
 #![tactic(auto)]
 
-ghost use Rattle.std.specs.Prelude.{◌≡◌, false, ℕ, ◌≤◌, ◌<◌, pos, ◌+ℤ◌, length, take};
+ghost use Rattle.std.specs.Prelude.{◌≡◌, false, ℕ, ◌≤◌, ◌<◌, pos, ◌+ℤ◌, length};
 ghost use Rattle.std.specs.Int.{w64};
 ghost use Rattle.std.proofs.Common.{SFits};
 ghost use Rattle.lists.specs.Padded.{padded};
@@ -10,20 +10,15 @@ ghost use Rattle.categoric_lists.specs.Whole.{whole};
 ghost use Rattle.categoric_lists.specs.Range.{range_count, too_wide, count_is};
 ghost use Rattle.categoric_lists.specs.Keys.{outside, keys_refusal};
 
-use refusal::{Answer, Refusal};
+use refusal::Refusal;
 
 // The values, then zeros.
 pub fn list_keys(values: &[i64]) -> [i64; 256]
     requires { length values.now ≤ 256 }
     ensures { result ≡ padded (pos 0) 256 values.now }
 {
-    let n = values.len();
     let mut result = [0i64; 256];
-    let mut i: usize = 0;
-    while i < n {
-        result[i] = values[i];
-        i += 1;
-    }
+    result[..values.len()].copy_from_slice(values);
     result
 }
 
@@ -75,29 +70,24 @@ pub fn range_keys(start: i64, count: usize) -> [i64; 256]
     ensures { result ≡ padded (pos 0) 256 (tabulate count (λ k. start +ℤ pos k)) }
 {
     let mut keys = [0i64; 256];
-    let mut i: usize = 0;
-    while i < count {
-        let key = start + i as i64;
-        keys[i] = key;
-        i += 1;
+    for i in 0..count {
+        keys[i] = start + i as i64;
     }
     keys
 }
 
 // ---- the first key that is refused
 
-pub fn keys_refusal(keys: &[i64; 256], count: usize) -> Answer
-    requires { (count ≤ 256) × (length keys.now ≡ 256) }
-    ensures { result ≡ keys_refusal (take count keys.now) }
+#[tactic(auto, using(crate::proofs::Refusing::key_refused, crate::proofs::Refusing::key_passed, crate::proofs::Refusing::keys_passed))]
+pub fn keys_refusal(keys: &[i64]) -> Result<(), Refusal>
+    ensures { result ≡ keys_refusal keys.now }
 {
-    let mut i: usize = 0;
-    while i < count {
-        if out_of_range(keys[i]) {
-            return Answer::Refused(Refusal::KeyOutOfRange(i));
+    for (i, key) in keys.iter().enumerate() {
+        if out_of_range(*key) {
+            return Err(Refusal::KeyOutOfRange(i));
         }
-        i += 1;
     }
-    Answer::Done
+    Ok(())
 }
 
 fn out_of_range(key: i64) -> bool

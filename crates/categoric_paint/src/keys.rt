@@ -7,6 +7,7 @@ ghost use Rattle.painting.specs.forms.ChunkOver.{chunk_over};
 ghost use Rattle.categoric_paint.specs.forms.KeySamples.{key_sample, search_sample};
 
 use crate::CategoricPaint;
+use categoric_keys::Keys;
 use categoric_search::narrow;
 
 // ---- by keys that can be searched: the words of a block, a block of a raster, the samples after the last block, and a raster
@@ -69,69 +70,43 @@ fn paint_by_search(
     requires { length out.old ≡ length src.now }
     ensures { out.new ≡ plain_painted (search_sample narrow.now colors.now p) src.now }
 {
-    let n = src.len();
-    let mut base: usize = 0;
-    while 16 <= n - base {
-        block_by_search(narrow, colors, p, src, base, out);
-        base += 16;
+    let blocks = src.len() / 16;
+    for k in 0..blocks {
+        block_by_search(narrow, colors, p, src, 16 * k, out);
     }
-    rest_by_search(narrow, colors, p, src, base, out);
+    rest_by_search(narrow, colors, p, src, 16 * blocks, out);
 }
 
 // ---- by keys in any order: sample by sample
 
-fn key_sample(
-    keys: &[i64; 256],
-    colors: &[u32; 256],
-    count: usize,
-    p: CategoricPaint,
-    value: f32,
-) -> u32
-    requires { count ≤ 256 }
-    ensures { result ≡ key_sample keys.now colors.now count p value }
+fn key_sample(keys: Keys, p: CategoricPaint, value: f32) -> u32
+    ensures { result ≡ key_sample keys.entry.keys.now keys.entry.colors.now keys.entry.count p value }
 {
-    let color = categoric_keys::key_color(keys, colors, count, p.nodata, value);
+    let color = keys.key_color(p.nodata, value);
     p.exclusions.masked(value, p.nodata, color)
 }
 
-fn paint_by_scan(
-    keys: &[i64; 256],
-    colors: &[u32; 256],
-    count: usize,
-    p: CategoricPaint,
-    src: &[f32],
-    out: &mut [u32],
-)
-    requires { (count ≤ 256) × (length out.old ≡ length src.now) }
-    ensures { out.new ≡ plain_painted (key_sample keys.now colors.now count p) src.now }
+fn paint_by_scan(keys: Keys, p: CategoricPaint, src: &[f32], out: &mut [u32])
+    requires { length out.old ≡ length src.now }
+    ensures { out.new ≡ plain_painted (key_sample keys.entry.keys.now keys.entry.colors.now keys.entry.count p) src.now }
 {
-    let n = src.len();
-    let mut i: usize = 0;
-    while i < n {
-        out[i] = key_sample(keys, colors, count, p, src[i]);
-        i += 1;
+    for i in 0..src.len() {
+        out[i] = key_sample(keys, p, src[i]);
     }
 }
 
 // ---- by the keys: a whole raster, with an output of its length
 
 // Keys as a builder leaves them are searched, and others scanned.
-pub fn paint_by_keys(
-    keys: &[i64; 256],
-    colors: &[u32; 256],
-    count: usize,
-    p: CategoricPaint,
-    src: &[f32],
-    out: &mut [u32],
-)
-    requires { (count ≤ 256) × (length out.old ≡ length src.now) }
-    ensures { out.new ≡ plain_painted (key_sample keys.now colors.now count p) src.now }
+pub fn paint_by_keys(keys: Keys, p: CategoricPaint, src: &[f32], out: &mut [u32])
+    requires { length out.old ≡ length src.now }
+    ensures { out.new ≡ plain_painted (key_sample keys.entry.keys.now keys.entry.colors.now keys.entry.count p) src.now }
 {
-    let search = narrow::searchable(keys, count);
+    let search = narrow::searchable(keys);
     if search {
-        let narrow = narrow::narrowed(keys, count);
-        paint_by_search(&narrow, colors, p, src, out);
+        let narrow = narrow::narrowed(keys);
+        paint_by_search(&narrow, keys.colors, p, src, out);
         return;
     }
-    paint_by_scan(keys, colors, count, p, src, out);
+    paint_by_scan(keys, p, src, out);
 }

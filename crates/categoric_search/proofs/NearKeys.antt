@@ -1,4 +1,5 @@
 -- Keys near 0: each of them is where the ends are, and their narrowing to 32 bits. Assumes nothing.
+use Rattle.std.specs.Prelude.{Option, Some, None}
 use mathlib.Core.Path.{◌≡◌, refl, sym, subst, ap}
 use mathlib.Core.Bool.{Bool, true, false, cond, ◌&&◌}
 use mathlib.Core.List.{List}
@@ -7,28 +8,22 @@ use Prim.Native.Nat.{ℕ, zero, suc, ◌-◌, ◌<◌}
 use native.Mathlib.Nat.{eq-or-lt_of_le}
 use native.Mathlib.Omega.{arith}
 use lib.Dec.{T, ltb→lt, lit<}
-use lib.Ieee.Fits.{and_l, and_r}
+use lib.Ieee.Fits.{and_i, and_l, and_r}
 use lib.IntN.{ℤ, pos, negsuc}
 use lib.ListN.{get_or}
 use lib.Signed.{mag, lt_z}
 use mir.Syntax.{w32}
 use mir.Val.{SFits}
-use Rattle.cast.specs.declared.Truncated.{Truncated}
-use Rattle.cast.specs.declared.Truncated.TheVariants.{Whole, Outside}
 use Rattle.categoric_lists.specs.Ascending.{ascends}
 use Rattle.categoric_keys.proofs.Ascent.{lt_lt, counted-below}
 use Rattle.categoric_search.specs.forms.Searchable.{in_key_range, ends_in_key_range, searchable}
 use Rattle.categoric_search.specs.forms.Narrow.{none, narrow_key}
 
-both_of : (a b : Bool) → T a → T b → T (a && b)
-both_of true b x y = y
-both_of false b x y = absurd x
-
 -- what lies between two numbers near 0 is near it
 near_between : (a z b : ℤ) → T (in_key_range a) → T (in_key_range b) → T (lt_z a z) → T (lt_z z b) → T (in_key_range z)
 unfolding in_key_range
 near_between a z b l h p q =
-    both_of (lt_z none z) (lt_z z (pos 16777217))
+    and_i (lt_z none z) (lt_z z (pos 16777217))
     (lt_lt none a z (and_l (lt_z none a) (lt_z a (pos 16777217)) l) p)
     (lt_lt z b (pos 16777217) q (and_r (lt_z none b) (lt_z b (pos 16777217)) h))
 
@@ -82,23 +77,27 @@ pub near_fits : (z : ℤ) → T (in_key_range z) → SFits w32 z
 unfolding in_key_range
 near_fits z h = record { sfits = small z (and_l (lt_z none z) (lt_z z (pos 16777217)) h) (and_r (lt_z none z) (lt_z z (pos 16777217)) h) }
 
+-- the counted keys fit 32 bits
+pub counted_fit : (keys : List ℤ) (count : ℕ) → searchable keys count ≡ true → (j : ℕ) → j < count → SFits w32 (get_or keys j (pos 0))
+counted_fit keys count h j q = near_fits (get_or keys j (pos 0)) (they_are_near keys count h j q)
+
 -- ---- a sample's key
 -- a sample's key is below the number that stands after the keys
-pub key_below : (t : Truncated) → T (lt_z (narrow_key t) (pos 2147483647))
+pub key_below : (t : (Option ℤ)) → T (lt_z (narrow_key t) (pos 2147483647))
 unfolding narrow_key
-key_below (Whole z) = go (in_key_range z) (λ h. near_below z h)
+key_below (Some z) = go (in_key_range z) (λ h. near_below z h)
   where
     go : (b : Bool) → (T b → T (lt_z z (pos 2147483647))) → T (lt_z (cond b z none) (pos 2147483647))
     go true f = f tt
     go false f = tt
-key_below Outside = tt
+key_below None = tt
 
 -- and fits 32 bits
-pub key_fits : (t : Truncated) → SFits w32 (narrow_key t)
+pub key_fits : (t : (Option ℤ)) → SFits w32 (narrow_key t)
 unfolding narrow_key
-key_fits (Whole z) = go (in_key_range z) (near_fits z)
+key_fits (Some z) = go (in_key_range z) (near_fits z)
   where
     go : (b : Bool) → (T b → SFits w32 z) → SFits w32 (cond b z none)
     go true f = f tt
     go false f = record { sfits = lit< tt }
-key_fits Outside = record { sfits = lit< tt }
+key_fits None = record { sfits = lit< tt }

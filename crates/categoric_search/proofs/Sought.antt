@@ -1,4 +1,5 @@
 -- Where a search by halving among narrowed keys ends, there is the entry with the sample's key, or nowhere. Assumes nothing.
+use Rattle.std.specs.Prelude.{Option, Some, None}
 use mathlib.Core.Path.{◌≡◌, refl, sym, ap, ◌∙◌, subst}
 use mathlib.Core.Bool.{Bool, true, false, not, cond}
 use mathlib.Core.List.{List, []}
@@ -12,8 +13,6 @@ use lib.IntN.{ℤ, pos}
 use lib.ListN.{get_or}
 use lib.Signed.{lt_z, le_z, ≤ℤ_refl}
 use Rattle.lists.proofs.Numbers.{lt_or_le}
-use Rattle.cast.specs.declared.Truncated.{Truncated}
-use Rattle.cast.specs.declared.Truncated.TheVariants.{Whole, Outside}
 use Rattle.cast.specs.Truncated.{truncated}
 use Rattle.categoric_lists.specs.Ascending.{ascends}
 use Rattle.colormapper.specs.Rule.{category, unknown, rule_color}
@@ -107,14 +106,14 @@ module _ (keys : List ℤ) (count : ℕ) (narrow : List ℤ) (n : Narrow keys co
   far : (z : ℤ) → (T (in_key_range z) → ⊥) → first_key keys z 0 count ≡ unknown
   far z h = found_nowhere keys z count (λ j q e. h (subst (λ (x : ℤ). T (in_key_range x)) e (they_are_near keys count n.sought j q)))
 
-  by_rule : (t : Truncated) → first_key keys (narrow_key t) 0 count ≡ key_rule keys count t
+  by_rule : (t : (Option ℤ)) → first_key keys (narrow_key t) 0 count ≡ key_rule keys count t
   unfolding narrow_key key_rule
-  by_rule (Whole z) = go (in_key_range z) (λ t. t)
+  by_rule (Some z) = go (in_key_range z) (λ t. t)
     where
       go : (b : Bool) → (T (in_key_range z) → T b) → first_key keys (cond b z none) 0 count ≡ first_key keys z 0 count
       go true f = refl
       go false f = far none none-is_not ∙ sym (far z f)
-  by_rule Outside = far none none-is_not
+  by_rule None = far none none-is_not
 
   -- ---- the colour of a sample
   at_end : (z : ℤ) → T (lt_z z (pos 2147483647)) → (colors : List ℕ) (nodata : ℕ) → color_at_end narrow colors nodata z

@@ -3,7 +3,7 @@ use mathlib.Core.Path.{◌≡◌, refl, sym, subst, ap, ap₂, ◌∙◌}
 use mathlib.Core.Bool.{Bool, true, false, not, cond}
 use mathlib.Core.List.{List}
 use mathlib.Core.Logic.{⊎_elim}
-use Prim.Native.Nat.{ℕ, suc, ◌+◌, ◌*◌, ◌^◌, ◌≤◌, ◌<◌}
+use Prim.Native.Nat.{ℕ, suc, ◌+◌, ◌*◌, ◌≤◌, ◌<◌}
 use native.Mathlib.Nat.{eq-or-lt_of_le}
 use native.Mathlib.Omega.{arith}
 use lib.Dec.{T, lit<, lit≤}
@@ -135,13 +135,9 @@ color-at-end narrow colors nodata z p0 p1 p2 p3 p4 p5 =
     (p5 ∙ ap (bisect narrow 1 z) (p4 ∙ ap (bisect narrow 2 z) (p3 ∙ ap (bisect narrow 4 z) (p2 ∙ ap (bisect narrow 8 z) (p1 ∙ ap (bisect narrow 16 z) p0)))))
 
 -- a step stays within the indices
-pub step_fits : (index step : ℕ) (t : Bool) → index + step * 2 ≤ 256 → (step * bool_byte t < 2 ^ 32) × (index + step * bool_byte t < 2 ^ 32)
-step_fits index step true h = (omega arith, omega arith)
-step_fits index step false h = (omega arith, omega arith)
-
-pub step-within : (narrow : List ℤ) (step : ℕ) (z : ℤ) (index : ℕ) → index + step * 2 ≤ 256 → bisect narrow step z index + step ≤ 256
+pub step_within : (narrow : List ℤ) (step : ℕ) (z : ℤ) (index : ℕ) → index + step * 2 ≤ 256 → bisect narrow step z index + step ≤ 256
 unfolding bisect
-step-within narrow step z index h = by_flag (le_z (get_or narrow (index + step) (pos 0)) z)
+step_within narrow step z index h = by_flag (le_z (get_or narrow (index + step) (pos 0)) z)
   where
     by_flag : (t : Bool) → index + step * bool_byte t + step ≤ 256
     by_flag true = omega arith
@@ -156,6 +152,12 @@ flag_most false = lit≤ tt
 pub reaches-is : (narrow : List ℤ) (z : ℤ) (index : ℕ) {r : ℕ} → SFits w32 z → SFits w32 (get_or narrow index (pos 0)) → r
     ≡ bool_byte (le_z (to_z w32 (of_z w32 (get_or narrow index (pos 0)))) (to_z w32 (of_z w32 z))) → r ≡ reaches narrow z index
 reaches-is narrow z index f g e = e ∙ ap₂ (λ (x y : ℤ). bool_byte (le_z x y)) (to_z-of_z w32 (get_or narrow index (pos 0)) g) (to_z-of_z w32 z f)
+
+-- a step by the flag of a stored number
+pub halved : (narrow : List ℤ) (z : ℤ) (step index : ℕ) {r : ℕ} → SFits w32 z → SFits w32 (get_or narrow (index + step) (pos 0)) → r
+    ≡ bool_byte (le_z (to_z w32 (of_z w32 (get_or narrow (index + step) (pos 0)))) (to_z w32 (of_z w32 z))) → index + step * r ≡ bisect narrow step z index
+unfolding bisect
+halved narrow z step index f g e = ap (λ (r : ℕ). index + step * r) (reaches-is narrow z (index + step) f g e)
 
 -- the count of the first step, by its seven flags
 pub leading-is :

@@ -4,7 +4,7 @@
 
 pub mod narrow;
 
-ghost use Rattle.std.specs.Prelude.{◌≡◌, cond, ◌*◌, ◌<◌, ◌≤◌, pos, get_or};
+ghost use Rattle.std.specs.Prelude.{◌≡◌, cond, ◌+◌, ◌*◌, ◌<◌, ◌≤◌, pos, get_or};
 ghost use Rattle.std.specs.Float.{nan};
 ghost use Rattle.std.specs.Int.Signed.{le_z};
 ghost use mir.Val.{bool_byte};
@@ -34,14 +34,13 @@ pub fn colors_for_numeric_values(
 }
 
 // Each lane's leading index. Every lane reads the same seven numbers, so that this step needs no load by lane.
+#[tactic(auto, using(crate::proofs::Steps::leading_within))]
 fn first_steps(narrow: &[i32; 256], key: [i32; 16]) -> [u32; 16]
     ensures { (Lanes 0 16 result (λ k. first_step narrow.now (get_or key k (pos 0)))) × (Within 32 result) }
 {
     let mut result = [0u32; 16];
-    let mut i: usize = 0;
-    while i < 16 {
+    for i in 0..16 {
         result[i] = first_step(narrow, key[i]);
-        i += 1;
     }
     result
 }
@@ -61,25 +60,33 @@ fn first_step(narrow: &[i32; 256], key: i32) -> u32
 }
 
 // 1 where a number is not above a key, else 0.
+#[tactic(auto, using(crate::proofs::Steps::flag_most))]
 fn reached(number: i32, key: i32) -> u32
     ensures { (result ≡ bool_byte (le_z number key)) × (result ≤ 1) }
 {
     (number <= key) as u32
 }
 
-// Each lane's half in which the key can be. The flag is a factor: as an `if` it would be a branch.
+// Each lane's half in which the key can be.
+#[tactic(auto, using(crate::proofs::Steps::step_within))]
 fn bisect(narrow: &[i32; 256], step: u32, key: [i32; 16], indices: [u32; 16]) -> [u32; 16]
     requires { (0 < step) × (Within (step * 2) indices) }
     ensures { (Lanes 0 16 result (λ k. bisect narrow.now step (get_or key k (pos 0)) (get_or indices k 0))) × (Within step result) }
 {
     let mut result = [0u32; 16];
-    let mut i: usize = 0;
-    while i < 16 {
-        let at = (indices[i] + step) as usize;
-        result[i] = indices[i] + step * ((narrow[at] <= key[i]) as u32);
-        i += 1;
+    for i in 0..16 {
+        result[i] = half(narrow, step, key[i], indices[i]);
     }
     result
+}
+
+// The half of the numbers from an index on in which a key can be. The flag is a factor: as an `if` it would be a branch.
+fn half(narrow: &[i32; 256], step: u32, key: i32, index: u32) -> u32
+    requires { (0 < step) × (index + step * 2 ≤ 256) }
+    ensures { result ≡ bisect narrow.now step key index }
+{
+    let at = (index + step) as usize;
+    index + step * ((narrow[at] <= key) as u32)
 }
 
 // The samples' keys are compared in two phases: a load under a branch is not vectorised.
@@ -90,11 +97,9 @@ fn keys_at(narrow: &[i32; 256], indices: [u32; 16]) -> [i32; 16]
     ensures { Lanes (pos 0) 16 result (λ k. get_or narrow.now (get_or indices k 0) (pos 0)) }
 {
     let mut result = [0i32; 16];
-    let mut i: usize = 0;
-    while i < 16 {
+    for i in 0..16 {
         let index = indices[i] as usize;
         result[i] = narrow[index];
-        i += 1;
     }
     result
 }
@@ -105,11 +110,9 @@ fn colors_at(colors: &[u32; 256], indices: [u32; 16]) -> [u32; 16]
     ensures { Lanes 0 16 result (λ k. get_or colors.now (get_or indices k 0) 0) }
 {
     let mut result = [0u32; 16];
-    let mut i: usize = 0;
-    while i < 16 {
+    for i in 0..16 {
         let index = indices[i] as usize;
         result[i] = colors[index];
-        i += 1;
     }
     result
 }
@@ -119,10 +122,8 @@ fn mask_missing(key: [i32; 16], found: [i32; 16], words: [u32; 16], nodata: u32)
     ensures { Lanes 0 16 result (λ k. cond (eq_z (get_or found k (pos 0)) (get_or key k (pos 0))) (get_or words k 0) nodata) }
 {
     let mut result = [0u32; 16];
-    let mut i: usize = 0;
-    while i < 16 {
+    for i in 0..16 {
         result[i] = select::pick(found[i] == key[i], words[i], nodata);
-        i += 1;
     }
     result
 }

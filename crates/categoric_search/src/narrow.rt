@@ -7,33 +7,31 @@ ghost use Rattle.lists.specs.Lanes.{Lanes};
 ghost use Rattle.categoric_search.specs.forms.Searchable.{in_key_range, ends_in_key_range, searchable};
 ghost use Rattle.categoric_search.specs.forms.Narrow.{Narrow, narrow_key};
 
-use cast::Truncated;
+use categoric_keys::Keys;
 
 // ---- the keys, once per painting
 
 // Whether the counted keys ascend and each lies from -16,777,216 to 16,777,216, as a builder leaves them.
-pub fn searchable(keys: &[i64; 256], count: usize) -> bool
-    requires { count ≤ 256 }
-    ensures { result ≡ searchable keys.now count }
+pub fn searchable(keys: Keys) -> bool
+    ensures { result ≡ searchable keys.entry.keys.now keys.entry.count }
 {
-    let up = categoric_keys::ascending(keys, count);
-    let ends = ends_in_key_range(keys, count);
+    let up = categoric_keys::ascending(keys.keys, keys.count);
+    let ends = ends_in_key_range(keys);
     up & ends
 }
 
 // Whether the first and the last of the counted keys lie in that range: those between them do where they ascend.
-fn ends_in_key_range(keys: &[i64; 256], count: usize) -> bool
-    requires { count ≤ 256 }
-    ensures { result ≡ ends_in_key_range keys.now count }
+fn ends_in_key_range(keys: Keys) -> bool
+    ensures { result ≡ ends_in_key_range keys.entry.keys.now keys.entry.count }
 {
-    if count == 0 {
+    if keys.count == 0 {
         return true;
     }
-    let last = count - 1;
-    in_key_range(keys[0]) & in_key_range(keys[last])
+    in_key_range(keys.keys[0]) & in_key_range(keys.keys[keys.count - 1])
 }
 
 // Whether a key lies in that range.
+#[tactic(auto, unfolding(crate::specs::forms::Searchable::in_key_range))]
 fn in_key_range(key: i64) -> bool
     ensures { result ≡ in_key_range key }
 {
@@ -41,15 +39,14 @@ fn in_key_range(key: i64) -> bool
 }
 
 // The counted keys as i32, then 2,147,483,647, which is above every key.
-pub fn narrowed(keys: &[i64; 256], count: usize) -> [i32; 256]
-    requires { (count ≤ 256) × (searchable keys.now count ≡ true) }
-    ensures { Narrow keys.now count result }
+#[tactic(auto, using(crate::proofs::NearKeys::counted_fit))]
+pub fn narrowed(keys: Keys) -> [i32; 256]
+    requires { searchable keys.keys.now keys.count ≡ true }
+    ensures { Narrow keys.entry.keys.now keys.entry.count result }
 {
     let mut result = [2147483647i32; 256];
-    let mut i: usize = 0;
-    while i < count {
-        result[i] = keys[i] as i32;
-        i += 1;
+    for i in 0..keys.count {
+        result[i] = keys.keys[i] as i32;
     }
     result
 }
@@ -61,10 +58,8 @@ pub fn narrowed_samples(value: [f32; 16]) -> [i32; 16]
     ensures { Lanes (pos 0) 16 result (λ k. narrow_key (truncated (get_or value k nan))) }
 {
     let mut result = [0i32; 16];
-    let mut i: usize = 0;
-    while i < 16 {
+    for i in 0..16 {
         result[i] = narrowed_sample(value[i]);
-        i += 1;
     }
     result
 }
@@ -74,14 +69,14 @@ fn narrowed_sample(value: f32) -> i32
     ensures { result ≡ narrow_key (truncated value) }
 {
     match cast::to_i64(value) {
-        Truncated::Whole(key) => narrowed_key(key),
-        Truncated::Outside => -16777217,
+        Some(key) => narrowed_key(key),
+        None => -16777217,
     }
 }
 
 // A key within the range as it is.
 fn narrowed_key(key: i64) -> i32
-    ensures { result ≡ narrow_key (Truncated.Whole key) }
+    ensures { result ≡ narrow_key (Some key) }
 {
     let kept = if in_key_range(key) { key } else { -16777217 };
     kept as i32

@@ -1,4 +1,5 @@
 -- The test of a sample, and the place that the code reads, are what the rule with a table says. Assumes nothing.
+use Rattle.std.specs.Prelude.{Option, Some, None}
 use mathlib.Core.Path.{◌≡◌, refl, sym, ap, ◌∙◌, subst}
 use mathlib.Core.List.{List, []}
 use mathlib.Core.Bool.{Bool, true, false, not, cond, ◌&&◌, and-true, true≢false}
@@ -12,12 +13,10 @@ use lib.Ieee.{Float, nan, inf, fin, binary32, up, down, of_bits, lt, le, eq, of_
 use lib.ListN.{get_or}
 use lib.Ieee.Bits.{is_false}
 use lib.Ieee.Exact.{HasValue}
-use lib.Ieee.Fits.{down_pos, and_l, and_r}
+use lib.Ieee.Fits.{down_pos, and_i, and_l, and_r}
 use lib.Ieee.Order.{le_of_values}
 use Rattle.floats.specs.RampIndex.{nought, floor_of}
 use Rattle.floats.proofs.Order.{or_l, lt_le, lt_lt, lt_irrefl_float}
-use Rattle.cast.specs.declared.Truncated.{Truncated}
-use Rattle.cast.specs.declared.Truncated.TheVariants.{Whole, Outside}
 use Rattle.cast.specs.Truncated.{truncated_fraction, truncated}
 use Rattle.cast.proofs.Value.{nothing}
 use Rattle.cast.proofs.Lossless.{exact}
@@ -76,17 +75,17 @@ infinity_above (inf t) n v = absurd v
 infinity_above (fin t k d) n v = refl
 
 -- ---- the rule at a float that is a / c in size
-none : (t : Truncated) → table_rule 0 t ≡ unknown
+none : (t : (Option ℤ)) → table_rule 0 t ≡ unknown
 unfolding table_rule
-none (Whole (pos n)) = rw (le-ltb n 0 (omega arith))
-none (Whole (negsuc n)) = refl
-none Outside = refl
+none (Some (pos n)) = rw (le-ltb n 0 (omega arith))
+none (Some (negsuc n)) = refl
+none None = refl
 
-missed_rule : (size : ℕ) → size ≤ 513 → (t : Truncated) → Missed t → table_rule size t ≡ unknown
+missed_rule : (size : ℕ) → size ≤ 513 → (t : (Option ℤ)) → Missed t → table_rule size t ≡ unknown
 unfolding table_rule
-missed_rule size h (Whole (pos n)) k = rw (le-ltb n size (omega arith))
-missed_rule size h (Whole (negsuc n)) k = refl
-missed_rule size h Outside k = refl
+missed_rule size h (Some (pos n)) k = rw (le-ltb n size (omega arith))
+missed_rule size h (Some (negsuc n)) k = refl
+missed_rule size h None k = refl
 
 positive_rule : (size a c : ℕ) → size ≤ 513 → 0 < c → table_rule size (truncated_fraction false a c) ≡ cond (ltb (a / c) size) (word (a / c)) unknown
 unfolding table_rule
@@ -95,7 +94,7 @@ positive_rule size a c h C = go (ltb a (2 ^ 63 * c)) (nltb→le a (2 ^ 63 * c))
     far : 2 ^ 63 * c ≤ a → size ≤ a / c
     far g = le_trans (le_trans h (lit≤ tt)) ((le-div_iff_mul-le C).1 g)
 
-    go : (b : Bool) → (T (not b) → 2 ^ 63 * c ≤ a) → table_rule size (cond b (Whole (pos (a / c))) Outside) ≡ cond (ltb (a / c) size) (word (a / c)) unknown
+    go : (b : Bool) → (T (not b) → 2 ^ 63 * c ≤ a) → table_rule size (cond b (Some (pos (a / c))) None) ≡ cond (ltb (a / c) size) (word (a / c)) unknown
     go true n = refl
     go false n = sym (ap (λ (b : Bool). cond b (word (a / c)) unknown) (le-ltb (a / c) size (far (n tt))))
 
@@ -185,14 +184,10 @@ unfolding size_limit le lt eq
 limit_le zero h = tt
 limit_le (suc n) h = le_of_values (size_limit (suc n)) array_end (suc n) 1 513 1 (lit< tt) (lit< tt) (limit-value n h) (refl, refl) (omega arith)
 
-both : (a b : Bool) → T a → T b → T (a && b)
-both true b s t = t
-both false b s t = elim s [ ]
-
 pub kept_place : (size : ℕ) → size ≤ 513 → (v : Float) → T (is_index (clamp size v))
 unfolding is_index clamp le lt eq
 kept_place size h v =
-    by_cond (λ x. T (is_index x)) (lt nought low) low nought (λ t. both (le nought low) (lt low array_end) (or_l (lt nought low) (eq nought low) t) under)
+    by_cond (λ x. T (is_index x)) (lt nought low) low nought (λ t. and_i (le nought low) (lt low array_end) (or_l (lt nought low) (eq nought low) t) under)
     (λ t. tt)
   where
     low : Float
@@ -235,7 +230,7 @@ chosen lookup size nodata h v = go (in_table size v) ∙ sym (ap (rule_color (ca
     go true = refl
     go false = refl
 
-pub limit-above : (size : ℕ) → (size ≡ 0 → ⊥) → of_int binary32 (pos size) ≡ size_limit size
+pub limit_above : (size : ℕ) → (size ≡ 0 → ⊥) → of_int binary32 (pos size) ≡ size_limit size
 unfolding size_limit
-limit-above zero h = absurd (h refl)
-limit-above (suc n) h = refl
+limit_above zero h = absurd (h refl)
+limit_above (suc n) h = refl

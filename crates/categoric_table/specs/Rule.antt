@@ -1,16 +1,14 @@
 -- What a categoric legend's look-up finds and the colour that this gives; with a table, how a sample is looked up (docs/RULES.md, "Categoric" and "Painting").
 -- Definitions only.
-use Rattle.std.specs.Prelude.{ℕ, cond, List, [], map, ltb, pos, negsuc, Float}
+use Rattle.std.specs.Prelude.{ℤ, Option, Some, None, ℕ, cond, List, [], map, ltb, pos, negsuc, Float}
 use Rattle.colormapper.specs.Rule.{Rule, word, unknown, RuleColors, rule_color}
-use Rattle.cast.specs.declared.Truncated.{Truncated}
-use Rattle.cast.specs.declared.Truncated.TheVariants.{Whole, Outside}
 use Rattle.cast.specs.Truncated.{truncated}
 
 -- with a table of `size` words: the word with the number that the sample is truncated to; outside the table, none
-unfoldable pub table_rule : (size : ℕ) → Truncated → Rule
-table_rule size (Whole (pos n)) = cond (ltb n size) (word n) unknown
-table_rule size (Whole (negsuc n)) = unknown
-table_rule size Outside = unknown
+unfoldable pub table_rule : (size : ℕ) → Option ℤ → Rule
+table_rule size (Some (pos n)) = cond (ltb n size) (word n) unknown
+table_rule size (Some (negsuc n)) = unknown
+table_rule size None = unknown
 
 -- the colours are the table's words, the entries' and nodata
 abbrev pub categoric_rule_colors : (lookup colors : List ℕ) (nodata : ℕ) → RuleColors

@@ -1,17 +1,15 @@
 -- Categoric legends that are asked for, refusals included (docs/RULES.md, "Where each call says no"). Definitions only.
-use Rattle.std.specs.Prelude.{ℕ, not, ◌||◌, List, ltb, eqb, ℤ, pos, length, replicate}
+use Rattle.std.specs.Prelude.{ℕ, not, ◌||◌, List, ltb, eqb, ℤ, pos, length, replicate, Result}
+use Rattle.refusal.specs.Outcome.{Answer, Done, refuse_if, made_unless}
 use Rattle.std.specs.Int.Signed.{lt_z}
+use Rattle.refusal.specs.declared.Refusal.{Refusal}
 use Rattle.refusal.specs.declared.Refusal.TheVariants.{TooManyCategories, ColorCountDiffers, RangeTooWide, CountAboveCapacity}
-use Rattle.refusal.specs.declared.Answer.{Answer}
-use Rattle.refusal.specs.declared.Answer.TheVariants.{Done}
-use Rattle.refusal.specs.Outcome.{refuse_if, if_done}
 use Rattle.lists.specs.Padded.{padded}
 use Rattle.colormap.specs.Positions.{ramp_colors}
 use Rattle.colormapper.specs.declared.MappingConfig.{MappingConfig}
 use Rattle.colormapper.specs.declared.UnmappableColors.{UnmappableColors}
 use Rattle.colormapper.specs.Settings.{unmappable_colors}
 use Rattle.catgegoric.specs.declared.CategoricNumeric.{CategoricNumeric}
-use Rattle.catgegoric.specs.declared.MadeCategoric.{MadeCategoric}
 use Rattle.categoric_build.specs.Categories.{Category, categories, keys_of, colors_of}
 use Rattle.categoric_lists.specs.Whole.{whole}
 use Rattle.categoric_build.specs.Table.{table_size, table}
@@ -32,9 +30,9 @@ record_of cs =
       lookup_count = table_size (keys_of cs);
     }
 
--- the record of keys with colours, or the empty one beside a refusal
-unfoldable pub made_unless : Answer → (keys : List ℤ) (colors : List ℕ) → MadeCategoric
-made_unless answer keys colors = record { answer = answer; categoric = if_done answer (record_of (categories keys colors)) empty_categoric }
+-- the record of keys with colours, unless they are refused
+unfoldable pub record_unless : Answer → (keys : List ℤ) (colors : List ℕ) → Result CategoricNumeric Refusal
+record_unless answer keys colors = made_unless answer (record_of (categories keys colors))
 
 -- ---- by values
 
@@ -47,12 +45,12 @@ unfoldable pub values_refusal : (count colors : ℕ) → Answer → Answer
 values_refusal count colors rest = many_refusal count (refuse_if (not (eqb count colors)) ColorCountDiffers rest)
 
 -- 11; 9; 17
-abbrev pub for_values : (values : List ℤ) (colors : List ℕ) → MadeCategoric
-for_values values colors = made_unless (values_refusal (length values) (length colors) (keys_refusal values)) values colors
+abbrev pub for_values : (values : List ℤ) (colors : List ℕ) → Result CategoricNumeric Refusal
+for_values values colors = record_unless (values_refusal (length values) (length colors) (keys_refusal values)) values colors
 
 -- 11; 17. The positions are over the number of values
-abbrev pub for_values_from_ramp : (values : List ℤ) (cmap : List ℕ) → MadeCategoric
-for_values_from_ramp values cmap = made_unless (many_refusal (length values) (keys_refusal values)) values (ramp_colors (length values) cmap)
+abbrev pub for_values_from_ramp : (values : List ℤ) (cmap : List ℕ) → Result CategoricNumeric Refusal
+for_values_from_ramp values cmap = record_unless (many_refusal (length values) (keys_refusal values)) values (ramp_colors (length values) cmap)
 
 -- ---- by range
 
@@ -65,13 +63,13 @@ unfoldable pub value_range_refusal : (start end : ℤ) (colors : ℕ) → Answer
 value_range_refusal start end colors rest = wide_refusal start end (refuse_if (not (count_is (range_count start end) colors)) ColorCountDiffers rest)
 
 -- 12; 11; 9; 17
-abbrev pub for_value_range : (start end : ℤ) (colors : List ℕ) → MadeCategoric
-for_value_range start end colors = made_unless (value_range_refusal start end (length colors) (keys_refusal (range_keys start end))) (range_keys start end) colors
+abbrev pub for_value_range : (start end : ℤ) (colors : List ℕ) → Result CategoricNumeric Refusal
+for_value_range start end colors = record_unless (value_range_refusal start end (length colors) (keys_refusal (range_keys start end))) (range_keys start end) colors
 
 -- 12; 11; 17
-abbrev pub for_value_range_from_ramp : (start end : ℤ) (cmap : List ℕ) → MadeCategoric
+abbrev pub for_value_range_from_ramp : (start end : ℤ) (cmap : List ℕ) → Result CategoricNumeric Refusal
 for_value_range_from_ramp start end cmap =
-    made_unless (wide_refusal start end (keys_refusal (range_keys start end))) (range_keys start end) (ramp_colors (whole (range_count start end)) cmap)
+    record_unless (wide_refusal start end (keys_refusal (range_keys start end))) (range_keys start end) (ramp_colors (whole (range_count start end)) cmap)
 
 -- ---- any use of a record
 

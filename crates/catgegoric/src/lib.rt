@@ -2,17 +2,17 @@
 #![tactic(auto)]
 
 ghost use Rattle.std.specs.Prelude.{◌≡◌, ◌≤◌, length, take};
-ghost use Rattle.refusal.specs.declared.Answer.TheVariants.{Done};
+ghost use Rattle.refusal.specs.Outcome.{Done};
 ghost use Rattle.lists.specs.Padded.{padded};
 ghost use Rattle.categoric_lists.specs.Keys.{keys_refusal};
 ghost use Rattle.categoric_build.specs.Categories.{categories};
 ghost use Rattle.categoric_build.specs.Table.{table_size, table};
-ghost use Rattle.catgegoric.specs.Made.{empty_categoric, record_of, made_unless, many_refusal, values_refusal, for_values, for_values_from_ramp, wide_refusal};
+ghost use Rattle.catgegoric.specs.Made.{empty_categoric, record_of, record_unless, many_refusal, values_refusal, for_values, for_values_from_ramp, wide_refusal};
 ghost use Rattle.catgegoric.specs.Made.{value_range_refusal, for_value_range, for_value_range_from_ramp, categoric_refusal, categoric_colors};
 
 use categoric_build::{sorted, table};
 use colormapper::{MappingConfig, UnmappableColors};
-use refusal::{Answer, Refusal};
+use refusal::Refusal;
 
 // The first `count` keys, ascending, with their colours, and the table's first `lookup_count` words. Other places are 0.
 #[repr(C)]
@@ -23,13 +23,6 @@ pub struct CategoricNumeric {
     pub count: usize,
     pub lookup: [u32; 513],
     pub lookup_count: usize,
-}
-
-// A record that was asked for: the empty one beside a refusal.
-#[derive(Clone, Copy)]
-pub struct MadeCategoric {
-    pub answer: Answer,
-    pub categoric: CategoricNumeric,
 }
 
 impl CategoricNumeric {
@@ -50,159 +43,139 @@ impl CategoricNumeric {
 
     // A category for each value, with the colours of a list.
     #[inline(always)]
-    pub fn for_values(values: &[i64], colors: &[u32]) -> MadeCategoric
+    #[tactic(auto, using(crate::proofs::Making::values_refused))]
+    pub fn for_values(values: &[i64], colors: &[u32]) -> Result<CategoricNumeric, Refusal>
         ensures { result ≡ for_values values.now colors.now }
     {
-        let count = values.len();
-        let answer = values_refusal(count, colors.len());
-        if let Answer::Refused(_) = answer {
-            return refused(answer);
-        }
-        let keys = categoric_lists::list_keys(values);
-        let words = colormap::list_colors(colors);
-        create(&keys, &words, count)
+        values_refusal(values.len(), colors.len())?;
+        create(values, colors)
     }
 
     // The same with the colours of a ramp.
+    // A function beside the list's: a ramp is never refused for its count of colours (9), and its colours are made after the refusals.
     #[inline(always)]
-    pub fn for_values_from_ramp(values: &[i64], cmap: &[u32; 256]) -> MadeCategoric
+    #[tactic(auto, using(crate::proofs::Making::values_ramp_refused))]
+    pub fn for_values_from_ramp(
+        values: &[i64],
+        cmap: &[u32; 256],
+    ) -> Result<CategoricNumeric, Refusal>
         ensures { result ≡ for_values_from_ramp values.now cmap.now }
     {
         let count = values.len();
-        let answer = many_refusal(count);
-        if let Answer::Refused(_) = answer {
-            return refused(answer);
-        }
-        let keys = categoric_lists::list_keys(values);
+        many_refusal(count)?;
         let words = colormap::ramp_colors(cmap, count);
-        create(&keys, &words, count)
+        create(values, &words[..count])
     }
 
     // A category for each whole number of a range, with the colours of a list.
     #[inline(always)]
-    pub fn for_value_range(start: i64, end: i64, colors: &[u32]) -> MadeCategoric
+    #[tactic(auto, using(categoric_lists::proofs::Numbers::back, crate::proofs::Making::range_refused))]
+    pub fn for_value_range(
+        start: i64,
+        end: i64,
+        colors: &[u32],
+    ) -> Result<CategoricNumeric, Refusal>
         ensures { result ≡ for_value_range start end colors.now }
     {
-        let answer = value_range_refusal(start, end, colors.len());
-        if let Answer::Refused(_) = answer {
-            return refused(answer);
-        }
+        value_range_refusal(start, end, colors.len())?;
         let count = categoric_lists::key_count(start, end);
         let keys = categoric_lists::range_keys(start, count);
-        let words = colormap::list_colors(colors);
-        create(&keys, &words, count)
+        create(&keys[..count], colors)
     }
 
     // The same with the colours of a ramp.
     #[inline(always)]
-    pub fn for_value_range_from_ramp(start: i64, end: i64, cmap: &[u32; 256]) -> MadeCategoric
+    #[tactic(auto, using(categoric_lists::proofs::Numbers::back, crate::proofs::Making::range_ramp_refused))]
+    pub fn for_value_range_from_ramp(
+        start: i64,
+        end: i64,
+        cmap: &[u32; 256],
+    ) -> Result<CategoricNumeric, Refusal>
         ensures { result ≡ for_value_range_from_ramp start end cmap.now }
     {
-        let answer = wide_refusal(start, end);
-        if let Answer::Refused(_) = answer {
-            return refused(answer);
-        }
+        wide_refusal(start, end)?;
         let count = categoric_lists::key_count(start, end);
         let keys = categoric_lists::range_keys(start, count);
         let words = colormap::ramp_colors(cmap, count);
-        create(&keys, &words, count)
+        create(&keys[..count], &words[..count])
     }
 }
 
 // ---- what is refused of values
 
 #[tactic(auto, unfolding(crate::specs::Made::many_refusal, crate::specs::Made::values_refusal))]
-fn values_refusal(values: usize, colors: usize) -> Answer
+fn values_refusal(values: usize, colors: usize) -> Result<(), Refusal>
     ensures { result ≡ values_refusal values colors Done }
 {
     if values > 256 {
-        return Answer::Refused(Refusal::TooManyCategories);
+        return Err(Refusal::TooManyCategories);
     }
     if values != colors {
-        return Answer::Refused(Refusal::ColorCountDiffers);
+        return Err(Refusal::ColorCountDiffers);
     }
-    Answer::Done
+    Ok(())
 }
 
 #[tactic(auto, unfolding(crate::specs::Made::many_refusal))]
-fn many_refusal(count: usize) -> Answer
+fn many_refusal(count: usize) -> Result<(), Refusal>
     ensures { result ≡ many_refusal count Done }
 {
     if count > 256 {
-        return Answer::Refused(Refusal::TooManyCategories);
+        return Err(Refusal::TooManyCategories);
     }
-    Answer::Done
+    Ok(())
 }
 
 // ---- what is refused of a range
 
-fn value_range_refusal(start: i64, end: i64, colors: usize) -> Answer
+#[tactic(auto, using(categoric_lists::proofs::Numbers::back, crate::proofs::Making::wide_stopped, crate::proofs::Making::wide_cleared), unfolding(crate::specs::Made::value_range_refusal))]
+fn value_range_refusal(start: i64, end: i64, colors: usize) -> Result<(), Refusal>
     ensures { result ≡ value_range_refusal start end colors Done }
 {
-    let answer = wide_refusal(start, end);
-    if let Answer::Refused(_) = answer {
-        return answer;
-    }
+    wide_refusal(start, end)?;
     if categoric_lists::count_is(categoric_lists::range_count(start, end), colors) {
-        return answer;
+        return Ok(());
     }
-    Answer::Refused(Refusal::ColorCountDiffers)
+    Err(Refusal::ColorCountDiffers)
 }
 
 #[tactic(auto, using(categoric_lists::proofs::Numbers::back), unfolding(crate::specs::Made::wide_refusal))]
-fn wide_refusal(start: i64, end: i64) -> Answer
+fn wide_refusal(start: i64, end: i64) -> Result<(), Refusal>
     ensures { result ≡ wide_refusal start end Done }
 {
     if categoric_lists::too_wide(start, end) {
-        return Answer::Refused(Refusal::RangeTooWide);
+        return Err(Refusal::RangeTooWide);
     }
     if categoric_lists::range_count(start, end) > 256 {
-        return Answer::Refused(Refusal::TooManyCategories);
+        return Err(Refusal::TooManyCategories);
     }
-    Answer::Done
+    Ok(())
 }
 
 // ---- what all builders do once the counts are right: inlined, since a record that a call returns has room in each frame
 
+// The record of some keys with their colours.
 #[inline(always)]
-fn refused(answer: Answer) -> MadeCategoric
-    ensures { result ≡ record { answer = answer; categoric = empty_categoric } }
+#[tactic(auto, unfolding(crate::specs::Made::record_unless))]
+fn create(keys: &[i64], colors: &[u32]) -> Result<CategoricNumeric, Refusal>
+    requires { (length keys.now ≤ 256) × (length keys.now ≤ length colors.now) }
+    ensures { result ≡ record_unless (keys_refusal keys.now) keys.now colors.now }
 {
-    MadeCategoric {
-        answer,
-        categoric: CategoricNumeric::default(),
-    }
-}
-
-// The record of the first `count` keys with their colours.
-#[inline(always)]
-fn create(keys: &[i64; 256], colors: &[u32; 256], count: usize) -> MadeCategoric
-    requires { (count ≤ 256) × (length keys.now ≡ 256) × (length colors.now ≡ 256) }
-    ensures { result ≡ made_unless (keys_refusal (take count keys.now)) (take count keys.now) (take count colors.now) }
-{
-    let answer = categoric_lists::keys_refusal(keys, count);
-    if let Answer::Refused(_) = answer {
-        return refused(answer);
-    }
-    MadeCategoric {
-        answer,
-        categoric: new(keys, colors, count),
-    }
+    categoric_lists::keys_refusal(keys)?;
+    Ok(new(keys, colors))
 }
 
 // Puts the categories in one after the other.
 #[inline(always)]
-fn new(given: &[i64; 256], words: &[u32; 256], n: usize) -> CategoricNumeric
-    requires { (n ≤ 256) × (length given.now ≡ 256) × (length words.now ≡ 256) }
-    ensures { result ≡ record_of (categories (take n given.now) (take n words.now)) }
+fn new(given: &[i64], words: &[u32]) -> CategoricNumeric
+    requires { (length given.now ≤ 256) × (length given.now ≤ length words.now) }
+    ensures { result ≡ record_of (categories given.now words.now) }
 {
     let mut keys = [0i64; 256];
     let mut colors = [0u32; 256];
     let mut count: usize = 0;
-    let mut i: usize = 0;
-    while i < n {
-        count = sorted::insert(&mut keys, &mut colors, count, given[i], words[i]);
-        i += 1;
+    for (i, key) in given.iter().enumerate() {
+        count = sorted::insert(&mut keys, &mut colors, count, *key, words[i]);
     }
     with_lookup(keys, colors, count)
 }
@@ -219,8 +192,8 @@ pub fn with_lookup(keys: [i64; 256], colors: [u32; 256], count: usize) -> Catego
       lookup_count = table_size (take count keys);
     } }
 {
-    let lookup_count = lookup_size(&keys, count);
-    let lookup = table::create_fast_lookup(&keys, &colors, count, lookup_count);
+    let lookup_count = lookup_size(&keys[..count]);
+    let lookup = table::create_fast_lookup(&keys[..count], &colors[..count], lookup_count);
     CategoricNumeric {
         keys,
         colors,
@@ -232,17 +205,16 @@ pub fn with_lookup(keys: [i64; 256], colors: [u32; 256], count: usize) -> Catego
 
 // How many words the table of some keys has, 0 where they have none.
 #[tactic(auto, using(crate::proofs::Sizes::table_sizes))]
-fn lookup_size(keys: &[i64; 256], count: usize) -> usize
-    requires { (count ≤ 256) × (length keys.now ≡ 256) }
-    ensures { result ≡ table_size (take count keys.now) }
+fn lookup_size(keys: &[i64]) -> usize
+    ensures { result ≡ table_size keys.now }
 {
-    if count == 0 {
+    if keys.is_empty() {
         return 0;
     }
-    if table::smallest(keys, count) < 0 {
+    if table::smallest(keys) < 0 {
         return 0;
     }
-    let most = table::largest(keys, count);
+    let most = table::largest(keys);
     if most > CategoricNumeric::MAX_LOOKUP_SIZE {
         return 0;
     }
@@ -253,16 +225,16 @@ fn lookup_size(keys: &[i64; 256], count: usize) -> usize
 
 // 16: a stored count above capacity.
 #[tactic(auto, unfolding(crate::specs::Made::categoric_refusal))]
-pub fn categoric_refusal(count: usize, lookup_count: usize) -> Answer
+pub fn categoric_refusal(count: usize, lookup_count: usize) -> Result<(), Refusal>
     ensures { result ≡ categoric_refusal count lookup_count }
 {
     if count > 256 {
-        return Answer::Refused(Refusal::CountAboveCapacity);
+        return Err(Refusal::CountAboveCapacity);
     }
     if lookup_count > 513 {
-        return Answer::Refused(Refusal::CountAboveCapacity);
+        return Err(Refusal::CountAboveCapacity);
     }
-    Answer::Done
+    Ok(())
 }
 
 // Absent low and high take nodata.

@@ -1,4 +1,6 @@
 -- What the reader accepts is the card of what is read. Assumes nothing.
+use Rattle.std.specs.Prelude.{Ok}
+use Rattle.refusal.specs.Outcome.{Answer, refuse_if, first_of}
 use mathlib.Core.Path.{◌≡◌, refl, sym, ap, ap₂, subst, ◌∙◌}
 use mathlib.Core.Bool.{Bool, true, false, not, ◌&&◌, ◌||◌}
 use mathlib.Core.List.{List, [], ◌∷◌, ◌++◌, map}
@@ -15,9 +17,6 @@ use Rattle.lists.specs.Padded.{padded}
 use Rattle.lists.proofs.Padding.{length-padded, take-padded}
 use Rattle.floats.specs.RampIndex.{nought}
 use Rattle.refusal.specs.declared.Refusal.TheVariants.{CountAboveCapacity, CardUnknown, CardMalformed, CardTooLong}
-use Rattle.refusal.specs.declared.Answer.{Answer}
-use Rattle.refusal.specs.declared.Answer.TheVariants.{Done}
-use Rattle.refusal.specs.Outcome.{refuse_if, first_of}
 use Rattle.refusal.proofs.Outcomes.{passed}
 use Rattle.colormapper.specs.declared.MappingConfig.{MappingConfig}
 use Rattle.colormapper.specs.Settings.{or_else}
@@ -115,14 +114,14 @@ none_held : HeldBanded (banded_of [])
 none_held = banded_held [] (omega arith) (unfold All in tt)
 
 -- ---- of the record that a builder makes of what is read: its counts, its keys and its table are not refused
-pub bands-counted : (bs : List LegendBand) → length bs ≤ 64 → banded_refusal (length bs) ≡ Done
+pub bands-counted : (bs : List LegendBand) → length bs ≤ 64 → banded_refusal (length bs) ≡ Ok tt
 unfolding banded_refusal
-bands-counted bs few = ap (λ (t : Bool). refuse_if t CountAboveCapacity Done) (le-ltb 64 (length bs) few)
+bands-counted bs few = ap (λ (t : Bool). refuse_if t CountAboveCapacity (Ok tt)) (le-ltb 64 (length bs) few)
 
-pub categories-counted : (cs : List Category) → length cs ≤ 256 → categoric_refusal (length cs) (table_size (keys_of cs)) ≡ Done
+pub categories-counted : (cs : List Category) → length cs ≤ 256 → categoric_refusal (length cs) (table_size (keys_of cs)) ≡ Ok tt
 unfolding categoric_refusal
 categories-counted cs many =
-    ap (λ (t : Bool). refuse_if t CountAboveCapacity Done)
+    ap (λ (t : Bool). refuse_if t CountAboveCapacity (Ok tt))
     (ap₂ ◌||◌ (le-ltb 256 (length cs) many) (le-ltb 513 (table_size (keys_of cs)) (size_few (keys_of cs))))
 
 pub table_is : (cs : List Category) → table_of_keys (record_of cs) ≡ true
@@ -200,7 +199,7 @@ module _ (count : ℕ) (e : List ℕ) (bytes : Bytes e) (config : MappingConfig)
   entries_again kind.Banded fit = ap (entries_of band_bytes) (take-padded blank_band 64 bands) ∙ bands_again fit
   entries_again kind.CategoricNumeric fit = ap (entries_of category_bytes) (counted-record categories) ∙ categories_again fit
 
-  stored_again : (k : LegendKind) → entries_fit_in k count e ≡ true → stored_in k (legend_from k count e config) ≡ Done
+  stored_again : (k : LegendKind) → entries_fit_in k count e ≡ true → stored_in k (legend_from k count e config) ≡ Ok tt
   unfolding banded_of record_of
   stored_again kind.Linear fit = refl
   stored_again kind.Banded fit = bands-counted bands (omega (arith, bands-long, (banded_told fit).0))
@@ -239,7 +238,7 @@ kind_again (suc zero) h = refl
 kind_again (suc (suc zero)) h = refl
 kind_again (suc (suc (suc n))) h = absurd (omega arith)
 
-module _ (card : List ℕ) (bytes : Bytes card) (done : read_refusal card ≡ Done) where
+module _ (card : List ℕ) (bytes : Bytes card) (done : read_refusal card ≡ Ok tt) where
   abbrev f : Fields
   f = fields_in card
 
@@ -253,7 +252,7 @@ module _ (card : List ℕ) (bytes : Bytes card) (done : read_refusal card ≡ Do
   rest = after_title card
 
   -- what the reader's answer tells
-  told : (known card ≡ true) × (well_formed card ≡ true) × (bounds_refusal (legend_in card) ≡ Done)
+  told : (known card ≡ true) × (well_formed card ≡ true) × (bounds_refusal (legend_in card) ≡ Ok tt)
   unfolding read_refusal
   told =
       let last = bounds_refusal (legend_in card) in
@@ -331,7 +330,7 @@ module _ (card : List ℕ) (bytes : Bytes card) (done : read_refusal card ≡ Do
   title-short : length (title_in card) ≤ 255
   title-short = omega (arith, title-long card bytes told.0 formed.0, number_at-below 6 1 card bytes)
 
-  pub write_done : write_refusal (title_in card) (legend_in card) card ≡ Done
+  pub write_done : write_refusal (title_in card) (legend_in card) card ≡ Ok tt
   unfolding write_refusal too_long stored_refusal in_order
   write_done =
       let l = legend_in card in
@@ -339,10 +338,10 @@ module _ (card : List ℕ) (bytes : Bytes card) (done : read_refusal card ≡ Do
       let b = by_kind in_order_in ∙ order_again f.count f.entries entries_bytes config settings k fit.1 in
       let long = ltb 255 (length (title_in card)) in
       let wide = ltb (length card) (length (card_of (title_in card) l)) in
-      let last = refuse_if (long || wide) CardTooLong Done in
+      let last = refuse_if (long || wide) CardTooLong (Ok tt) in
       let d : (long || wide) ≡ false = ap₂ ◌||◌ (le-ltb 255 (length (title_in card)) title-short)
       (le-ltb (length card) (length (card_of (title_in card) l)) (omega (arith, ap length card_again))) in
       ap (λ (x : Answer). first_of x (refuse_if (not (in_order l)) CountAboveCapacity (first_of (bounds_refusal l) last))) a
       ∙ ap (λ (t : Bool). refuse_if (not t) CountAboveCapacity (first_of (bounds_refusal l) last)) b
       ∙ ap (λ (x : Answer). first_of x last) told.2
-      ∙ ap (λ (t : Bool). refuse_if t CardTooLong Done) d
+      ∙ ap (λ (t : Bool). refuse_if t CardTooLong (Ok tt)) d

@@ -1,4 +1,5 @@
 -- The settings on a card there and back. Assumes nothing.
+use Rattle.std.specs.Prelude.{Option, Some, None}
 use mathlib.Core.Path.{◌≡◌, refl, sym, ap, ◌∙◌}
 use mathlib.Core.Bool.{Bool, true, false, cond, ◌&&◌, ◌||◌, true≢false}
 use Prim.Native.Nat.{ℕ, zero, suc, ◌+◌, ◌*◌, ◌/◌, ◌%◌, ◌<◌}
@@ -6,8 +7,6 @@ use native.Mathlib.Nat.{div-div-eq-div-mul}
 use native.Mathlib.Omega.{arith}
 use borrow.Author.Tests.{eqb-true, ltb-true}
 use lib.Dec.{ltb, eqb}
-use Rattle.colormapper.specs.declared.OptionalColor.{OptionalColor}
-use Rattle.colormapper.specs.declared.OptionalColor.TheVariants.{Given, Absent}
 use Rattle.colormapper.specs.declared.MappingConfig.{MappingConfig}
 use Rattle.colormapper.specs.Settings.{or_else, color_if, given_flag, flag_of}
 use Rattle.card_layout.specs.Settings.{flags_of, low_flag, high_flag, zero_flag, settings_in, settings_fit}
@@ -22,7 +21,7 @@ three a b c e = let p = both (a && b) c e in let q = both a b p.0 in (q.0, q.1, 
 
 -- ---- written and read: each colour is there or not, and zero is nodata or not
 module _ (nodata : ℕ) where
-  abbrev settings : (low high : OptionalColor) (zero_is : Bool) → MappingConfig
+  abbrev settings : (low high : Option ℕ) (zero_is : Bool) → MappingConfig
   settings low high zero_is =
       record { nodata_color = nodata; out_of_range_low_color = low; out_of_range_high_color = high; zero_is_nodata = zero_is }
 
@@ -32,16 +31,16 @@ module _ (nodata : ℕ) where
       let high = or_else config.out_of_range_high_color 0 in
       (settings_in nodata (flags_of config) low high ≡ config) × (settings_fit (flags_of config) low high ≡ true) × (flags_of config < 256)
 
-  each_way : (low high : OptionalColor) (zero_is : Bool) → Back (settings low high zero_is)
+  each_way : (low high : Option ℕ) (zero_is : Bool) → Back (settings low high zero_is)
   unfolding settings_in settings_fit flags_of
-  each_way (Given l) (Given h) true = (refl, refl, omega arith)
-  each_way (Given l) (Given h) false = (refl, refl, omega arith)
-  each_way (Given l) Absent true = (refl, refl, omega arith)
-  each_way (Given l) Absent false = (refl, refl, omega arith)
-  each_way Absent (Given h) true = (refl, refl, omega arith)
-  each_way Absent (Given h) false = (refl, refl, omega arith)
-  each_way Absent Absent true = (refl, refl, omega arith)
-  each_way Absent Absent false = (refl, refl, omega arith)
+  each_way (Some l) (Some h) true = (refl, refl, omega arith)
+  each_way (Some l) (Some h) false = (refl, refl, omega arith)
+  each_way (Some l) None true = (refl, refl, omega arith)
+  each_way (Some l) None false = (refl, refl, omega arith)
+  each_way None (Some h) true = (refl, refl, omega arith)
+  each_way None (Some h) false = (refl, refl, omega arith)
+  each_way None None true = (refl, refl, omega arith)
+  each_way None None false = (refl, refl, omega arith)
 
 pub settings_back : (config : MappingConfig) → Back config.nodata_color config
 settings_back config =
@@ -61,16 +60,16 @@ flag_again (suc (suc n)) h = absurd (omega arith)
 color_again : (given color : ℕ) → (eqb given 1 || eqb color 0) ≡ true → or_else (color_if given color) 0 ≡ color
 color_again given color e = go (eqb given 1) refl
   where
-    go : (t : Bool) → eqb given 1 ≡ t → or_else (cond (eqb given 1) (Given color) Absent) 0 ≡ color
-    go true f = ap (λ (t : Bool). or_else (cond t (Given color) Absent) 0) f
+    go : (t : Bool) → eqb given 1 ≡ t → or_else (cond (eqb given 1) (Some color) None) 0 ≡ color
+    go true f = ap (λ (t : Bool). or_else (cond t (Some color) None) 0) f
     go false f =
-        ap (λ (t : Bool). or_else (cond t (Given color) Absent) 0) f
+        ap (λ (t : Bool). or_else (cond t (Some color) None) 0) f
         ∙ sym (eqb-true color 0 (sym (ap (λ (t : Bool). t || eqb color 0) f) ∙ e))
 
 color_held : (given color : ℕ) → Word color → HeldColor (color_if given color)
 color_held given color h = go (eqb given 1)
   where
-    go : (t : Bool) → HeldColor (cond t (Given color) Absent)
+    go : (t : Bool) → HeldColor (cond t (Some color) None)
     go true = h
     go false = tt
 

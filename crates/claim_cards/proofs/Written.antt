@@ -1,4 +1,5 @@
 -- What the writer writes is accepted, and is given back. Assumes nothing.
+use Rattle.std.specs.Prelude.{Option, Some, None, Ok}
 use mathlib.Core.Path.{◌≡◌, refl, sym, ap, ap₂, subst, ◌∙◌}
 use mathlib.Core.Bool.{Bool, true, not, ◌&&◌, ◌||◌}
 use mathlib.Core.List.{List}
@@ -15,11 +16,8 @@ use Rattle.lists.proofs.Tabulated.{length-tabulate}
 use Rattle.lists.proofs.Padding.{take-padded}
 use Rattle.lists.proofs.Entries.{map_rule, tabulate_front}
 use Rattle.refusal.specs.declared.Refusal.TheVariants.{CountAboveCapacity, CardTooLong, CardUnknown, CardMalformed}
-use Rattle.refusal.specs.declared.Answer.TheVariants.{Done}
 use Rattle.refusal.specs.Outcome.{refuse_if, first_of}
 use Rattle.refusal.proofs.Outcomes.{passed, first_done}
-use Rattle.colormapper.specs.declared.OptionalColor.{OptionalColor}
-use Rattle.colormapper.specs.declared.OptionalColor.TheVariants.{Given, Absent}
 use Rattle.colormapper.specs.declared.MappingConfig.{MappingConfig}
 use Rattle.colormapper.specs.Settings.{or_else}
 use Rattle.banded_columns.specs.declared.LegendBand.{LegendBand}
@@ -62,32 +60,32 @@ kind-below kind.Linear = omega arith
 kind-below kind.Banded = omega arith
 kind-below kind.CategoricNumeric = omega arith
 
-color_word : (c : OptionalColor) → HeldColor c → or_else c 0 < 256 ^ 4
-color_word (Given c) h = h
-color_word Absent h = omega arith
+color_word : (c : Option ℕ) → HeldColor c → or_else c 0 < 256 ^ 4
+color_word (Some c) h = h
+color_word None h = omega arith
 
 -- ---- what the writer's answer tells
 pub record Unrefused (title : List ℕ) (l : Legend) : Type 0 where
   pub writable : Writable l
   pub short : length title ≤ 255
 
-pub unrefused : (title : List ℕ) (l : Legend) (buffer : List ℕ) → write_refusal title l buffer ≡ Done → Unrefused title l
+pub unrefused : (title : List ℕ) (l : Legend) (buffer : List ℕ) → write_refusal title l buffer ≡ Ok tt → Unrefused title l
 unfolding write_refusal too_long
 unrefused title l buffer e =
     let long = ltb 255 (length title) in
     let wide = ltb (length buffer) (length (card_of title l)) in
-    let last = refuse_if (long || wide) CardTooLong Done in
+    let last = refuse_if (long || wide) CardTooLong (Ok tt) in
     let a = first_done (stored_refusal l) (refuse_if (not (in_order l)) CountAboveCapacity (first_of (bounds_refusal l) last)) e in
     let b = passed (not (in_order l)) CountAboveCapacity (first_of (bounds_refusal l) last) a.1 in
     let c = first_done (bounds_refusal l) last b.1 in
-    let d = passed (long || wide) CardTooLong Done c.1 in
+    let d = passed (long || wide) CardTooLong (Ok tt) c.1 in
     record {
       writable = record { stored = a.0; ordered = not-false (in_order l) b.0; bounds = c.0 };
       short = ltb-false 255 (length title) (neither long wide d.0).0;
     }
 
 -- ---- the entries, by kind
-module _ (l : Legend) (held : Held l) (stored : stored_refusal l ≡ Done) (ordered : in_order l ≡ true) where
+module _ (l : Legend) (held : Held l) (stored : stored_refusal l ≡ Ok tt) (ordered : in_order l ≡ true) where
   abbrev config : MappingConfig
   config = l.mapping_config
 
@@ -261,7 +259,7 @@ module _ (title : List ℕ) (l : Legend) (held : Held l) (u : Unrefused title l)
       (settings_back l.mapping_config).0
       ∙ legend_from_lem l held u.writable.stored u.writable.ordered l.kind refl
 
-  pub read_done : read_refusal (card_of title l) ≡ Done
+  pub read_done : read_refusal (card_of title l) ≡ Ok tt
   unfolding read_refusal well_formed card_of bounds_refusal rebuilt
   read_done =
       let card = card_of title l in

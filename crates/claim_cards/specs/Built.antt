@@ -1,6 +1,7 @@
 -- What a builder makes, the writer takes: of such a record nothing is refused, so that 20, by the title or the buffer, is all that can be. Definitions only.
-use Rattle.std.specs.Prelude.{◌≡◌, true, List, ℕ, Float, ℤ}
-use Rattle.refusal.specs.declared.Answer.TheVariants.{Done}
+use Rattle.std.specs.Prelude.{Result, Ok, ◌≡◌, true, List, ℕ, Float, ℤ}
+use Rattle.refusal.specs.declared.Refusal.{Refusal}
+use Rattle.refusal.specs.Outcome.{Done}
 use Rattle.colormapper.specs.declared.MappingConfig.{MappingConfig}
 use Rattle.linear.specs.Made.{linear_of_ramp, linear_of_list}
 use Rattle.banded_columns.specs.declared.LegendBand.{LegendBand}
@@ -11,7 +12,6 @@ use Rattle.banded.specs.Given.{with_bands_given}
 use Rattle.catgegoric.specs.Made.{for_values, for_values_from_ramp, for_value_range, for_value_range_from_ramp}
 use Rattle.legend.specs.declared.Legend.{Legend}
 use Rattle.legend.specs.Record.{stored_refusal}
-use Rattle.legend_builders.specs.declared.MadeLegend.{MadeLegend}
 use Rattle.legend_builders.specs.Building.{linear_with_settings, banded_with_settings, categoric_with_settings}
 use Rattle.card_layout.specs.Stored.{in_order}
 use Rattle.card_layout.specs.Refusals.{bounds_refusal}
@@ -22,8 +22,8 @@ pub record Writable (l : Legend) : Type 0 where
   pub ordered : in_order l ≡ true
   pub bounds : bounds_refusal l ≡ Done
 
-abbrev pub Taken : MadeLegend → Type 0
-Taken made = made.answer ≡ Done → Writable made.legend
+abbrev pub Taken : Result Legend Refusal → Type 0
+Taken made = (legend : Legend) → made ≡ Ok legend → Writable legend
 
 -- by every builder; the colours of bands are those of a list, or of a ramp
 pub record BuildersTaken (config : MappingConfig) : Type 0 where

@@ -1,6 +1,6 @@
 -- CARDS ARE EXACT (docs/PROMISES.md, "Cards"): the reader accepts exactly what the writer writes, and gives it back. Definitions only.
 use Rattle.std.specs.Prelude.{◌≡◌, List, ℕ, take}
-use Rattle.refusal.specs.declared.Answer.TheVariants.{Done}
+use Rattle.refusal.specs.Outcome.{Done}
 use Rattle.banded.specs.Record.{counted}
 use Rattle.legend.specs.declared.LegendKind.{LegendKind}
 use Rattle.legend.specs.declared.LegendKind.TheVariants as kind

@@ -1,10 +1,8 @@
 -- What the types of a legend hold: words of 32 bits, f32s, whole numbers of 64 bits, and as many places as an array has. Definitions only.
-use Rattle.std.specs.Prelude.{◌≡◌, ℕ, ◌^◌, ◌<◌, T, Float, ℤ, length}
+use Rattle.std.specs.Prelude.{Option, Some, None, ◌≡◌, ℕ, ◌^◌, ◌<◌, T, Float, ℤ, length}
 use Rattle.std.specs.Float.{binary32}
 use Rattle.std.specs.Float.Ieee.{fits}
 use Rattle.std.specs.Int.Signed.{mag}
-use Rattle.colormapper.specs.declared.OptionalColor.{OptionalColor}
-use Rattle.colormapper.specs.declared.OptionalColor.TheVariants.{Given, Absent}
 use Rattle.colormapper.specs.declared.MappingConfig.{MappingConfig}
 use Rattle.linear.specs.declared.Linear.{Linear}
 use Rattle.banded_columns.specs.declared.LegendBand.{LegendBand}
@@ -23,9 +21,9 @@ Single x = T (fits binary32 x)
 abbrev pub Key : ℤ → Type 0
 Key k = mag k < 2 ^ 63
 
-abbrev pub HeldColor : OptionalColor → Type 0
-HeldColor (Given color) = Word color
-HeldColor Absent = Unit
+abbrev pub HeldColor : Option ℕ → Type 0
+HeldColor (Some color) = Word color
+HeldColor None = Unit
 
 pub record HeldSettings (config : MappingConfig) : Type 0 where
   pub nodata : Word config.nodata_color

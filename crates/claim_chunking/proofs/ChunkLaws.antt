@@ -1,4 +1,5 @@
 -- The law of one chunk for each kind of legend, for any lane count. Assumes nothing.
+use Rattle.std.specs.Prelude.{Option}
 use mathlib.Core.Path.{◌≡◌, refl, sym, ap, ap₂, ◌∙◌}
 use mathlib.Core.Logic.{◌⊎◌, inl, inr, ⊎_elim}
 use mathlib.Core.Bool.{Bool, true, false, not, cond, ◌||◌, true≢false}
@@ -10,7 +11,6 @@ use lib.Dec.{T}
 use lib.IntN.{pos}
 use lib.Ieee.{Float, nan, fin, is_nan, fits, binary32}
 use lib.ListN.{length, get_or, length-map}
-use Rattle.cast.specs.declared.Nodata.{Nodata}
 use Rattle.colormapper.specs.Unmappable.{is_nodata, unmappable}
 use Rattle.painting.specs.Masked.{masked, masked_color}
 use Rattle.painting.specs.forms.ChunkLaw.{Terms, ChunkLaw, PainterLaw}
@@ -100,7 +100,7 @@ neither : (a b c : Bool) → ((a || b) || c) ≡ false → T (not a)
 neither true b c e = absurd (true≢false e)
 neither false b c e = tt
 
-real : (nodata : Nodata) (flag : Bool) (v : Float) → unmappable nodata flag v ≡ false → T (not (is_nan v))
+real : (nodata : Option Float) (flag : Bool) (v : Float) → unmappable nodata flag v ≡ false → T (not (is_nan v))
 unfolding unmappable
 real nodata flag v e = neither (is_nan v) (is_nodata nodata v) _ e
 
@@ -113,7 +113,7 @@ by_zeros : {A : Type 0} (rule : Float → A) → ((s t : Bool) → rule (fin s 0
 by_zeros rule h v w a = zeros_alike rule h a
 
 -- ---- each kind
-module _ (l : Legend) (nodata : Nodata) (L : ℕ) where
+module _ (l : Legend) (nodata : Option Float) (L : ℕ) where
   abbrev flag : Bool
   flag = l.mapping_config.zero_is_nodata
 

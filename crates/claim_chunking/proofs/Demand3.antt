@@ -1,4 +1,5 @@
 -- THE CHUNKING RULE holds of every lawful legend. Assumes nothing.
+use Rattle.std.specs.Prelude.{Option}
 use mathlib.Core.List.{List, [], ◌∷◌, map}
 use Prim.Native.Nat.{ℕ, zero, suc}
 use lib.IntN.{pos}
@@ -8,7 +9,6 @@ use lib.Ieee.Bits.{of_bits-fits}
 use lib.Ieee.Fits.{of_int-fits}
 use lib.ListN.{get_or}
 use Rattle.cast.specs.Samples.{of_u8, of_i16}
-use Rattle.cast.specs.declared.Nodata.{Nodata}
 use Rattle.painting.specs.forms.ChunkLaw.{PainterLaw}
 use Rattle.painting.proofs.Chunks.{pixel_same, pixel_differs, pixel_alone}
 use Rattle.legend.specs.declared.Legend.{Legend}
@@ -30,7 +30,7 @@ sample_fits (i16 xs) i = each_fits of_i16 (of_int-fits binary32) xs i
 
 -- ---- THE RULE, for a linear legend with bounds that are f32s, as a record's are
 module _ (l : Legend) (start : T (fits binary32 l.linear.start)) (end : T (fits binary32 l.linear.end)) (h : Lawful l) where
-  painter_law : (nodata : Nodata) (L : ℕ) → PainterLaw (painter l nodata) L (terms_in l nodata L l.kind)
+  painter_law : (nodata : Option Float) (L : ℕ) → PainterLaw (painter l nodata) L (terms_in l nodata L l.kind)
   unfolding painter
   painter_law nodata L = of_kind l nodata L l.kind start end h
 

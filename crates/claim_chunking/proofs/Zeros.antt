@@ -1,4 +1,5 @@
 -- The two zeros are one sample: every rule gives them one colour. Assumes nothing.
+use Rattle.std.specs.Prelude.{Option, Some, None}
 use mathlib.Core.Path.{◌≡◌, refl, sym, ap, ap₂, ◌∙◌}
 use mathlib.Core.Bool.{Bool, true, false, not, cond, ◌&&◌, ◌||◌}
 use mathlib.Core.List.{List, [], ◌∷◌}
@@ -17,8 +18,6 @@ use Rattle.floats.proofs.Order.{lt_le, le_lt, le_le, eq_eq, eq_sym, eq→le, zer
 use Rattle.floats.proofs.Sums.{sums, add_is}
 use Rattle.floats.proofs.Distance.{abs_round}
 use Rattle.cast.specs.Truncated.{truncated}
-use Rattle.cast.specs.declared.Nodata.{Nodata}
-use Rattle.cast.specs.declared.Nodata.TheVariants.{Value, Absent}
 use Rattle.colormapper.specs.declared.UnmappableColors.{UnmappableColors}
 use Rattle.colormapper.specs.Rule.{rule_color}
 use Rattle.colormapper.specs.Rule as rule
@@ -119,11 +118,11 @@ module _ (s t : Bool) where
   zeros : T (eq x y)
   zeros = zeros_equal s t (pos 0) (pos 0)
 
-  nodata_alike : (nodata : Nodata) → is_nodata nodata x ≡ is_nodata nodata y
-  nodata_alike (Value a) = eq_left x y zeros a
-  nodata_alike Absent = refl
+  nodata_alike : (nodata : Option Float) → is_nodata nodata x ≡ is_nodata nodata y
+  nodata_alike (Some a) = eq_left x y zeros a
+  nodata_alike None = refl
 
-  pub unmappable_zeros : (nodata : Nodata) (flag : Bool) → unmappable nodata flag x ≡ unmappable nodata flag y
+  pub unmappable_zeros : (nodata : Option Float) (flag : Bool) → unmappable nodata flag x ≡ unmappable nodata flag y
   unfolding unmappable is_nan
   unmappable_zeros nodata flag = ap₂ (λ (a b : Bool). a || (flag && b)) (nodata_alike nodata) (eq_left x y zeros nought)
 

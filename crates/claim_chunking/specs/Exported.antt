@@ -1,8 +1,7 @@
 -- The chunking rule of the calls from C: the outcomes that the contracts of the exported painters allow (c_painters), answered 0. Definitions only.
-use Rattle.std.specs.Prelude.{◌≡◌, List, ℕ, ℤ, Float}
+use Rattle.std.specs.Prelude.{Option, ◌≡◌, List, ℕ, ℤ, Float}
 use Rattle.std.specs.Float.{binary32}
 use Rattle.std.specs.Float.Ieee.{of_bits}
-use Rattle.cast.specs.declared.Nodata.{Nodata}
 use Rattle.painting.specs.Paintings.{Painter}
 use Rattle.banded.specs.declared.Banded.{Banded}
 use Rattle.legend.specs.declared.Legend.{Legend}
@@ -24,7 +23,7 @@ pub record Handed : Type 0 where
 abbrev pub handed_legend : Handed → Legend
 handed_legend h = legend_of_view h.view h.banded h.cmap h.keys h.colors h.lookup
 
-abbrev pub handed_painter : Handed → Nodata → Painter
+abbrev pub handed_painter : Handed → Option Float → Painter
 handed_painter h nodata = painter_of_view h.view h.banded h.cmap h.keys h.colors h.lookup h.nodata_given nodata
 
 -- a bound comes in as an f32, which is what some bits stand for
@@ -35,14 +34,14 @@ abbrev pub BoundsAreF32 : Handed → Type 0
 BoundsAreF32 h = IsF32 h.view.start × IsF32 h.view.end
 
 -- what a call of legend_view_paint_f32, _u8 or _i16 leaves that is answered 0, whatever output held before
-pub record PlainCalled (h : Handed) (nodata : Nodata) (r : Raster) (output : List ℕ) : Type 0 where
+pub record PlainCalled (h : Handed) (nodata : Option Float) (r : Raster) (output : List ℕ) : Type 0 where
   pub before : List ℕ
   pub result : LegendAnswer
   pub outcome : PlainOutcome (handed_painter h nodata) (samples r) before result output
   pub done : result.number ≡ 0
 
 -- and of legend_view_paint_lanes_f32, _u8 or _i16, whatever output and scratch held before
-pub record LanesCalled (h : Handed) (nodata : Nodata) (L : ℕ) (r : Raster) (output : List ℕ) : Type 0 where
+pub record LanesCalled (h : Handed) (nodata : Option Float) (L : ℕ) (r : Raster) (output : List ℕ) : Type 0 where
   pub before : List ℕ
   pub scratch : List ℕ
   pub scratch_after : List ℕ

@@ -1,12 +1,11 @@
 -- THE CHUNKING RULE (docs/PROMISES.md, demand 3): what the lane count of a processor can change, and that it changes nothing else. What is claimed, of which
 -- legends, and the one case in which two colours differ. Definitions only.
-use Rattle.std.specs.Prelude.{◌≡◌, ◌⊎◌, false, List, map, ℕ, ◌<◌, T, ℤ, Float, length, get_or}
+use Rattle.refusal.specs.Outcome.{Done}
+use Rattle.std.specs.Prelude.{Option, ◌≡◌, ◌⊎◌, false, List, map, ℕ, ◌<◌, T, ℤ, Float, length, get_or}
 use Rattle.std.specs.Float.{nan, binary32}
 use Rattle.std.specs.Float.Ieee.{lt, of_bits}
 use Rattle.floats.specs.Comparison.{Same}
-use Rattle.refusal.specs.declared.Answer.TheVariants.{Done}
 use Rattle.cast.specs.Samples.{of_u8, of_i16}
-use Rattle.cast.specs.declared.Nodata.{Nodata}
 use Rattle.colormapper.specs.Unmappable.{unmappable}
 use Rattle.painting.specs.Paintings.{PlainPainting, LanePainting}
 use Rattle.painting.specs.Painted.{full}
@@ -56,35 +55,35 @@ abbrev pub Asked : Legend → Type 0
 Asked l = AskedIn l.kind l
 
 -- the exception: a mappable sample of a linear legend whose fraction is the f32 with the bits 3B008080
-abbrev pub RoundingExceptionIn : LegendKind → Legend → Nodata → (sample : Float) → Type 0
+abbrev pub RoundingExceptionIn : LegendKind → Legend → Option Float → (sample : Float) → Type 0
 RoundingExceptionIn kind.Linear l nodata v =
     (unmappable nodata l.mapping_config.zero_is_nodata v ≡ false) × ExceptionFraction l.linear.start l.linear.end v
 RoundingExceptionIn kind.Banded l nodata v = ⊥
 RoundingExceptionIn kind.CategoricNumeric l nodata v = ⊥
 
-abbrev pub RoundingException : Legend → Nodata → (sample : Float) → Type 0
+abbrev pub RoundingException : Legend → Option Float → (sample : Float) → Type 0
 RoundingException l = RoundingExceptionIn l.kind l
 
 -- The rule for a legend, over the outputs that its plain paintings leave (`Plain nodata raster output`) and those that its lane paintings leave
 -- (`Lanes nodata L raster output`)
-pub record ChunkingRule (l : Legend) (Plain : Nodata → Raster → List ℕ → Type 0) (Lanes : Nodata → ℕ → Raster → List ℕ → Type 0) : Type 0 where
+pub record ChunkingRule (l : Legend) (Plain : Option Float → Raster → List ℕ → Type 0) (Lanes : Option Float → ℕ → Raster → List ℕ → Type 0) : Type 0 where
   -- a pixel of a lane painting is that of the plain painting of the same raster, unless it lies in a full chunk and is the exception
-  pub same : (nodata : Nodata) (L : ℕ) (r : Raster) (plain lanes : List ℕ) → Plain nodata r plain → Lanes nodata L r lanes → (i : ℕ) → i < length (samples r)
+  pub same : (nodata : Option Float) (L : ℕ) (r : Raster) (plain lanes : List ℕ) → Plain nodata r plain → Lanes nodata L r lanes → (i : ℕ) → i < length (samples r)
       → (get_or lanes i 0 ≡ get_or plain i 0) ⊎ ((i < full L (length (samples r))) × RoundingException l nodata (sample_at r i))
   -- there it has the ramp's entry 1 from lane painting, and entry 0 from plain painting
-  pub differs : (nodata : Nodata) (L : ℕ) (r : Raster) (plain lanes : List ℕ) → Plain nodata r plain → Lanes nodata L r lanes
+  pub differs : (nodata : Option Float) (L : ℕ) (r : Raster) (plain lanes : List ℕ) → Plain nodata r plain → Lanes nodata L r lanes
       → (i : ℕ) → i < full L (length (samples r)) → RoundingException l nodata (sample_at r i)
       → (get_or lanes i 0 ≡ get_or l.linear.cmap 1 0) × (get_or plain i 0 ≡ get_or l.linear.cmap 0 0)
   -- two rasters of one length with the same sample at a pixel have the same colour there from lane painting
-  pub alone : (nodata : Nodata) (L : ℕ) (r s : Raster) (out out' : List ℕ) → Lanes nodata L r out → Lanes nodata L s out'
+  pub alone : (nodata : Option Float) (L : ℕ) (r s : Raster) (out out' : List ℕ) → Lanes nodata L r out → Lanes nodata L s out'
       → length (samples r) ≡ length (samples s) → (i : ℕ) → i < length (samples r) → SameSample (sample_at r i) (sample_at s i) → get_or out i 0 ≡ get_or out' i 0
 
 -- what a painting leaves that keeps its contract and is not refused (so that L is 4, 8 or 16), whatever output and scratch held before
-pub record PlainDone (l : Legend) (nodata : Nodata) (r : Raster) (output : List ℕ) : Type 0 where
+pub record PlainDone (l : Legend) (nodata : Option Float) (r : Raster) (output : List ℕ) : Type 0 where
   pub before : List ℕ
   pub painting : PlainPainting (painter l nodata) (samples r) before Done output
 
-pub record LanesDone (l : Legend) (nodata : Nodata) (L : ℕ) (r : Raster) (output : List ℕ) : Type 0 where
+pub record LanesDone (l : Legend) (nodata : Option Float) (L : ℕ) (r : Raster) (output : List ℕ) : Type 0 where
   pub before : List ℕ
   pub scratch : List ℕ
   pub scratch_after : List ℕ

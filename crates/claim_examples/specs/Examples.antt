@@ -1,14 +1,14 @@
 -- The twelve examples of docs/RULES.md, in one table. Each row asks the definitions for a number: a colour's word, or a count. Definitions only.
-use Rattle.std.specs.Prelude.{Bool, true, ◌&&◌, List, [], ◌∷◌, ℕ, eqb, ℤ, pos, negsuc, Float, get_or}
+use Rattle.std.specs.Prelude.{None, Result, Ok, Err, Bool, true, ◌&&◌, List, [], ◌∷◌, ℕ, eqb, ℤ, pos, negsuc, Float, get_or}
+use Rattle.refusal.specs.declared.Refusal.{Refusal}
+use Rattle.color.specs.declared.Color.{Color}
 use Rattle.std.specs.Float.{nan}
 use Rattle.std.specs.Float.Ieee.{neg}
 use Rattle.lists.specs.Tabulate.{tabulate}
 use Rattle.floats.specs.RampIndex.{exception_fraction}
+use Rattle.refusal.specs.Outcome.{made_or}
 use Rattle.refusal.specs.Table.{number_of}
-use Rattle.cast.specs.declared.Nodata.TheVariants.{Absent}
 use Rattle.color.specs.Word.{word_of}
-use Rattle.color.specs.declared.HexColor.{HexColor}
-use Rattle.color.specs.declared.HexColor.TheVariants.{Made, Refused}
 use Rattle.color.specs.Hex.{hex_color}
 use Rattle.lookup.specs.Entries.{plain_entry, lane_entry, entry_color}
 use Rattle.colormap.specs.Positions.{ramp_colors}
@@ -21,10 +21,12 @@ use Rattle.banded_columns.specs.declared.LegendBand.{LegendBand}
 use Rattle.banded_rule.specs.PlainRule as bands
 use Rattle.banded_lanes.specs.LaneRule.{lane_colors}
 use Rattle.banded_lists.specs.Padded.{blank_band}
+use Rattle.banded.specs.declared.Banded.{Banded}
+use Rattle.banded.specs.Record.{banded_of}
 use Rattle.banded.specs.EqualBands.{with_equal_bands}
 use Rattle.categoric_keys.specs.Rule as categories
 use Rattle.catgegoric.specs.declared.CategoricNumeric.{CategoricNumeric}
-use Rattle.catgegoric.specs.Made.{for_values}
+use Rattle.catgegoric.specs.Made.{for_values, empty_categoric}
 use Rattle.claim_examples.specs.Decimals.{integer, decimal}
 
 -- G is the ramp whose entry i is i, i, i, 255
@@ -75,9 +77,16 @@ pub data Question : Type 0 where
   zero_is_nodata : (value : Float) → Question
 
 -- the word of a hex colour; a refusal's number is no word of an opaque colour
-abbrev pub hex_word_or_number : HexColor → ℕ
-hex_word_or_number (Made color) = word_of color
-hex_word_or_number (Refused why) = number_of why
+abbrev pub hex_word_or_number : Result Color Refusal → ℕ
+hex_word_or_number (Ok color) = word_of color
+hex_word_or_number (Err why) = number_of why
+
+-- what the builders make, else the empty records
+abbrev pub equal_bands_from_ramp : (count : ℕ) → Banded
+equal_bands_from_ramp count = made_or (with_equal_bands count (integer 0) (integer 1) (ramp_colors count G)) (banded_of [])
+
+abbrev pub categories_for : (keys : List ℤ) (colors : List ℕ) → CategoricNumeric
+categories_for keys colors = made_or (for_values keys colors) empty_categoric
 
 unfoldable pub category_of : CategoricNumeric → Float → ℕ
 category_of m v = categories.plain_color m.keys m.colors m.count m.lookup m.lookup_count nodata v
@@ -88,12 +97,12 @@ example_word (lane_ramp fraction) = entry_color G (lane_entry fraction)
 example_word (linear_over start end value) = linear.plain_color G start end settings value
 example_word (bands_at bs value) = bands.plain_color bs settings value
 example_word (chunk_at bs values k) = get_or (lane_colors bs settings values) k 0
-example_word (equal_from_ramp count k) = (get_or (with_equal_bands count (integer 0) (integer 1) (ramp_colors count G)).banded.bands k blank_band).color
-example_word (category_at keys colors value) = category_of (for_values keys colors).categoric value
-example_word (category_count keys colors) = (for_values keys colors).categoric.count
-example_word (table_words keys colors) = (for_values keys colors).categoric.lookup_count
+example_word (equal_from_ramp count k) = (get_or (equal_bands_from_ramp count).bands k blank_band).color
+example_word (category_at keys colors value) = category_of (categories_for keys colors) value
+example_word (category_count keys colors) = (categories_for keys colors).count
+example_word (table_words keys colors) = (categories_for keys colors).lookup_count
 example_word (hex_text text) = hex_word_or_number (hex_color text)
-example_word (zero_is_nodata value) = masked_color (unmappable Absent true) nodata (linear.plain_color G (integer 0) (integer 255) settings) value
+example_word (zero_is_nodata value) = masked_color (unmappable None true) nodata (linear.plain_color G (integer 0) (integer 255) settings) value
 
 pub record Example : Type 0 where
   pub line : ℕ

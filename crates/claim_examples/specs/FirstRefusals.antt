@@ -1,12 +1,8 @@
 -- Refusals in the order of the table's rows: for each place of docs/RULES.md, "Where each call says no", and each two refusals that can both apply there, an
 -- input to which both apply, and the one that is given. Definitions only.
 use Rattle.std.specs.Prelude.{Bool, true, ◌&&◌, List, [], ◌∷◌, ◌++◌, ℕ, eqb, ℤ, pos, negsuc, take, replicate}
-use Rattle.refusal.specs.declared.Answer.{Answer}
-use Rattle.refusal.specs.declared.Answer.TheVariants.{Done}
-use Rattle.refusal.specs.declared.Answer.TheVariants as answer
+use Rattle.refusal.specs.Outcome.{Answer, Done, answer_of}
 use Rattle.refusal.specs.Table.{answer_number}
-use Rattle.color.specs.declared.HexColor.{HexColor}
-use Rattle.color.specs.declared.HexColor.TheVariants.{Made, Refused}
 use Rattle.color.specs.Hex.{hex_color}
 use Rattle.colormapper.specs.Settings.{no_settings}
 use Rattle.linear.specs.Made.{linear_of_list}
@@ -23,10 +19,6 @@ use Rattle.legend_range.specs.ValueRanges.{total_range_refusal}
 use Rattle.card_layout.specs.Cards.{card_of}
 use Rattle.card_layout.specs.Refusals.{read_refusal, write_refusal}
 use Rattle.claim_examples.specs.Decimals.{integer}
-
-abbrev of_hex : HexColor → Answer
-of_hex (Made color) = Done
-of_hex (Refused why) = answer.Refused why
 
 -- ranges that are empty, from 1 to 0
 abbrev empty : ValueRange
@@ -69,28 +61,28 @@ all_given (r ∷ rs) = eqb (answer_number r.given) r.number && all_given rs
 unfoldable pub rows : List Row
 rows =
     -- hex: 1 and 2, the empty text; 2 and 3, `x0g0000`
-    row 1 (of_hex (hex_color []))
-    ∷ row 2 (of_hex (hex_color (120 ∷ 48 ∷ 103 ∷ 48 ∷ 48 ∷ 48 ∷ 48 ∷ [])))
+    row 1 (answer_of (hex_color []))
+    ∷ row 2 (answer_of (hex_color (120 ∷ 48 ∷ 103 ∷ 48 ∷ 48 ∷ 48 ∷ 48 ∷ [])))
     -- linear from a list: 4 and 7; 5 and 7
-    ∷ row 4 (linear_of_list (integer 1) (integer 0) (1 ∷ [])).answer
-    ∷ row 5 (linear_of_list (integer 1) (integer 0) (replicate 257 1)).answer
+    ∷ row 4 (answer_of (linear_of_list (integer 1) (integer 0) (1 ∷ [])))
+    ∷ row 5 (answer_of (linear_of_list (integer 1) (integer 0) (replicate 257 1)))
     -- equal bands: 7 and 8; 7 and 9; 8 and 9
-    ∷ row 7 (with_equal_bands 65 (integer 1) (integer 0) (replicate 65 1)).answer
-    ∷ row 7 (with_equal_bands 2 (integer 1) (integer 0) (1 ∷ [])).answer
-    ∷ row 8 (with_equal_bands 65 (integer 0) (integer 1) (1 ∷ [])).answer
+    ∷ row 7 (answer_of (with_equal_bands 65 (integer 1) (integer 0) (replicate 65 1)))
+    ∷ row 7 (answer_of (with_equal_bands 2 (integer 1) (integer 0) (1 ∷ [])))
+    ∷ row 8 (answer_of (with_equal_bands 65 (integer 0) (integer 1) (1 ∷ [])))
     -- manual ranges: 8 and 10; 8 and 9; 10 and 9
-    ∷ row 8 (with_manual_ranges (record { ranges = replicate 64 empty; count = 65 }) (replicate 65 1)).answer
-    ∷ row 8 (with_manual_ranges (record { ranges = replicate 64 (record { start = integer 0; end = integer 1 }); count = 65 }) (1 ∷ [])).answer
-    ∷ row 10 (with_manual_ranges (record { ranges = replicate 64 empty; count = 1 }) []).answer
+    ∷ row 8 (answer_of (with_manual_ranges (record { ranges = replicate 64 empty; count = 65 }) (replicate 65 1)))
+    ∷ row 8 (answer_of (with_manual_ranges (record { ranges = replicate 64 (record { start = integer 0; end = integer 1 }); count = 65 }) (1 ∷ [])))
+    ∷ row 10 (answer_of (with_manual_ranges (record { ranges = replicate 64 empty; count = 1 }) []))
     -- categories by values: 11 and 9; 11 and 17; 9 and 17
-    ∷ row 11 (for_values (replicate 257 (pos 1)) (1 ∷ [])).answer
-    ∷ row 11 (for_values (replicate 257 above) (replicate 257 1)).answer
-    ∷ row 9 (for_values (above ∷ []) []).answer
+    ∷ row 11 (answer_of (for_values (replicate 257 (pos 1)) (1 ∷ [])))
+    ∷ row 11 (answer_of (for_values (replicate 257 above) (replicate 257 1)))
+    ∷ row 9 (answer_of (for_values (above ∷ []) []))
     -- categories by range: 12 and 11, 9, 17 at once; 11 and 9; 11 and 17; 9 and 17
-    ∷ row 12 (for_value_range least most (1 ∷ [])).answer
-    ∷ row 11 (for_value_range (pos 1) (pos 257) (1 ∷ [])).answer
-    ∷ row 11 (for_value_range (pos 16777000) (pos 16777256) (replicate 257 1)).answer
-    ∷ row 9 (for_value_range above above []).answer
+    ∷ row 12 (answer_of (for_value_range least most (1 ∷ [])))
+    ∷ row 11 (answer_of (for_value_range (pos 1) (pos 257) (1 ∷ [])))
+    ∷ row 11 (answer_of (for_value_range (pos 16777000) (pos 16777256) (replicate 257 1)))
+    ∷ row 9 (answer_of (for_value_range above above []))
     -- the range and the list of colours: 16 and 17
     ∷ row 16 (total_range_refusal
     (categoric_legend (record { keys = replicate 256 above; colors = replicate 256 1; count = 257; lookup = replicate 513 0; lookup_count = 0 }) no_settings))

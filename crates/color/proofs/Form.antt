@@ -1,4 +1,7 @@
 -- Hex text, by what the tests of the code show: its form, its length, and what it is read as. Assumes nothing.
+use Rattle.std.specs.Prelude.{Option, Some, Result, Err}
+use Rattle.refusal.specs.declared.Refusal.{Refusal}
+use Rattle.color.specs.declared.Color.{Color}
 use Prim.Native.Nat.{ℕ, ◌≤◌}
 use mathlib.Core.Path.{◌≡◌, refl, sym, ◌∙◌}
 use mathlib.Core.Bool.{Bool, true, false, not, ◌||◌, and-true, and-false}
@@ -10,10 +13,6 @@ use types.Run.{OneOf}
 use lib.Dec.{eqb}
 use lib.ListN.{length, get_or}
 use Rattle.refusal.specs.declared.Refusal.TheVariants.{EmptyText, NotHexColor}
-use Rattle.color.specs.declared.Hex.{Hex}
-use Rattle.color.specs.declared.Hex.TheVariants.{Value}
-use Rattle.color.specs.declared.HexColor.{HexColor}
-use Rattle.color.specs.declared.HexColor.TheVariants.{Refused}
 use Rattle.color.specs.Hex.{hex_form, pair_at, alpha_of, of_pairs, hex_color}
 use Rattle.color.proofs.Digits.{both}
 
@@ -51,7 +50,7 @@ module _ (text : List ℕ) where
   pub formed : {b : Bool} → b ≡ hex_form text → not b ≡ false → hex_form text ≡ true
   formed {b} e h = sym e ∙ not-false b h
 
-  pub short_alpha : length text ≡ 7 → alpha_of text ≡ Value 255
+  pub short_alpha : length text ≡ 7 → alpha_of text ≡ Some 255
   unfolding alpha_of
   short_alpha e = rw (eq-eqb (length text) 7 e)
 
@@ -59,11 +58,11 @@ module _ (text : List ℕ) where
   unfolding alpha_of
   long_alpha h = rw (ne_eqb (length text) 7 h)
 
-  pub of_empty : length text ≡ 0 → hex_color text ≡ Refused EmptyText
+  pub of_empty : length text ≡ 0 → hex_color text ≡ Err EmptyText
   unfolding hex_color
   of_empty e = rw (eq-eqb (length text) 0 e)
 
-  pub of_formless : (length text ≡ 0 → ⊥) → hex_form text ≡ false → hex_color text ≡ Refused NotHexColor
+  pub of_formless : (length text ≡ 0 → ⊥) → hex_form text ≡ false → hex_color text ≡ Err NotHexColor
   unfolding hex_color
   of_formless h e = rw (ne_eqb (length text) 0 h, e)
 
@@ -76,6 +75,6 @@ module _ (text : List ℕ) where
       in rw (ne_eqb (length text) 0 (λ z. omega arith), e)
 
   -- the pairs as the code read them
-  pub of_read : {r g b a : Hex} {c : HexColor} → hex_form text ≡ true → c ≡ of_pairs r g b a → r ≡ pair_at text 0 → g ≡ pair_at text 1 → b ≡ pair_at text 2 → a
+  pub of_read : {r g b a : (Option ℕ)} {c : (Result Color Refusal)} → hex_form text ≡ true → c ≡ of_pairs r g b a → r ≡ pair_at text 0 → g ≡ pair_at text 1 → b ≡ pair_at text 2 → a
       ≡ alpha_of text → c ≡ hex_color text
   of_read f e er eg eb ea = e ∙ (λ j. of_pairs (er j) (eg j) (eb j) (ea j)) ∙ sym (of-formed f)

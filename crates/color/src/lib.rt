@@ -7,26 +7,12 @@ ghost use Rattle.color.specs.Hex.{hex_digit, hex_pair, pair_at, hex_form, of_pai
 
 use refusal::Refusal;
 
-#[derive(Clone, Copy)]
+#[derive(Clone, Copy, PartialEq, Eq, Debug)]
 pub struct Color {
     pub r: u8,
     pub g: u8,
     pub b: u8,
     pub a: u8,
-}
-
-// What hex text is read as.
-#[derive(Clone, Copy)]
-pub enum HexColor {
-    Made(Color),
-    Refused(Refusal),
-}
-
-// What a hex digit, or a pair of them, is read as.
-#[derive(Clone, Copy)]
-pub enum Hex {
-    Value(u8),
-    Nothing,
 }
 
 impl Color {
@@ -80,20 +66,20 @@ impl Color {
     }
 
     // A colour of `#RRGGBB` or `#RRGGBBAA`, or the first refusal that applies.
-    pub fn from_hex_string(text: &[u8]) -> HexColor
+    pub fn from_hex_string(text: &[u8]) -> Result<Color, Refusal>
         ensures { result ≡ hex_color text.now }
     {
         if text.len() == 0 {
-            return HexColor::Refused(Refusal::EmptyText);
+            return Err(Refusal::EmptyText);
         }
         if !Color::hex_form(text) {
-            return HexColor::Refused(Refusal::NotHexColor);
+            return Err(Refusal::NotHexColor);
         }
         let r = Color::pair_at(text, 0);
         let g = Color::pair_at(text, 1);
         let b = Color::pair_at(text, 2);
         if text.len() == 7 {
-            return Color::of_pairs(r, g, b, Hex::Value(255));
+            return Color::of_pairs(r, g, b, Some(255));
         }
         let a = Color::pair_at(text, 3);
         Color::of_pairs(r, g, b, a)
@@ -110,26 +96,24 @@ impl Color {
     }
 
     // A colour of its channels, or the first pair that is no byte.
-    fn of_pairs(r: Hex, g: Hex, b: Hex, a: Hex) -> HexColor
+    #[tactic(auto, unfolding(crate::specs::Hex::of_pairs))]
+    fn of_pairs(
+        r: Option<u8>,
+        g: Option<u8>,
+        b: Option<u8>,
+        a: Option<u8>,
+    ) -> Result<Color, Refusal>
         ensures { result ≡ of_pairs r g b a }
     {
-        let Hex::Value(red) = r else {
-            return HexColor::Refused(Refusal::NotHexByte(0));
-        };
-        let Hex::Value(green) = g else {
-            return HexColor::Refused(Refusal::NotHexByte(1));
-        };
-        let Hex::Value(blue) = b else {
-            return HexColor::Refused(Refusal::NotHexByte(2));
-        };
-        let Hex::Value(alpha) = a else {
-            return HexColor::Refused(Refusal::NotHexByte(3));
-        };
-        HexColor::Made(Color::rgba(red, green, blue, alpha))
+        let red = r.ok_or(Refusal::NotHexByte(0))?;
+        let green = g.ok_or(Refusal::NotHexByte(1))?;
+        let blue = b.ok_or(Refusal::NotHexByte(2))?;
+        let alpha = a.ok_or(Refusal::NotHexByte(3))?;
+        Ok(Color::rgba(red, green, blue, alpha))
     }
 
     // The pair with a number, counted from 0 after the `#`.
-    fn pair_at(text: &[u8], pair: usize) -> Hex
+    fn pair_at(text: &[u8], pair: usize) -> Option<u8>
         requires { 2 + 2 * pair < length text.now }
         ensures { result ≡ pair_at text.now pair }
     {
@@ -137,30 +121,27 @@ impl Color {
     }
 
     // A pair as `u8::from_str_radix(_, 16)` reads it: `+` may stand in place of the first digit.
-    fn parse_hex(high: u8, low: u8) -> Hex
+    #[tactic(auto, using(crate::proofs::Digits::below_16), unfolding(crate::specs::Hex::hex_pair, crate::specs::Hex::two_digits))]
+    fn parse_hex(high: u8, low: u8) -> Option<u8>
         ensures { result ≡ hex_pair high low }
     {
         if high == b'+' {
             return Color::hex_digit(low);
         }
-        let Hex::Value(h) = Color::hex_digit(high) else {
-            return Hex::Nothing;
-        };
-        let Hex::Value(l) = Color::hex_digit(low) else {
-            return Hex::Nothing;
-        };
-        Hex::Value(16 * h + l)
+        let h = Color::hex_digit(high)?;
+        let l = Color::hex_digit(low)?;
+        Some(16 * h + l)
     }
 
     // A hex digit of either case.
-    fn hex_digit(byte: u8) -> Hex
+    fn hex_digit(byte: u8) -> Option<u8>
         ensures { result ≡ hex_digit byte }
     {
         match byte {
-            b'0'..=b'9' => Hex::Value(byte - b'0'),
-            b'A'..=b'F' => Hex::Value(byte - b'A' + 10),
-            b'a'..=b'f' => Hex::Value(byte - b'a' + 10),
-            _ => Hex::Nothing,
+            b'0'..=b'9' => Some(byte - b'0'),
+            b'A'..=b'F' => Some(byte - b'A' + 10),
+            b'a'..=b'f' => Some(byte - b'a' + 10),
+            _ => None,
         }
     }
 }

@@ -1,5 +1,5 @@
 -- A list of colours spread over the 256 entries of a ramp, in whole numbers (docs/RULES.md, "Colours and ramps"). Definitions only.
-use Rattle.std.specs.Prelude.{ℕ, suc, ◌+◌, ◌*◌, ◌-◌, ◌/◌, ◌%◌, cond, List, eqb, length, get_or}
+use Rattle.std.specs.Prelude.{ℕ, ◌+◌, ◌*◌, ◌-◌, ◌/◌, ◌%◌, cond, List, eqb, length, get_or}
 use Rattle.color.specs.declared.Color.{Color}
 use Rattle.color.specs.Word.{word_of, color_of}
 use Rattle.lists.specs.Tabulate.{tabulate}

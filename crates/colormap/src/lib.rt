@@ -8,19 +8,12 @@ ghost use Rattle.colormap.specs.Positions.{step, position, ramp_colors};
 ghost use Rattle.colormap.specs.Made.{list_refusal, empty_ramp, ramp_of_list, ramp_of_preset};
 
 use color::Color;
-use refusal::{Answer, Refusal};
+use refusal::Refusal;
 
 // A ramp: exactly 256 colours.
 #[derive(Clone, Copy)]
 pub struct ProcessedColorMap {
     pub cmap: [u32; 256],
-}
-
-// A ramp that was asked for: the empty one, all TRANSPARENT, beside a refusal.
-#[derive(Clone, Copy)]
-pub struct MadeRamp {
-    pub answer: Answer,
-    pub ramp: ProcessedColorMap,
 }
 
 impl ProcessedColorMap {
@@ -34,52 +27,37 @@ impl ProcessedColorMap {
 // ---- making ramps
 
 // A ramp from a list of colours.
-pub fn create(colors: &[u32]) -> MadeRamp
+#[tactic(auto, using(crate::proofs::Making::enough, crate::proofs::Making::few), unfolding(crate::specs::Made::spread_unless))]
+pub fn create(colors: &[u32]) -> Result<ProcessedColorMap, Refusal>
     ensures { result ≡ ramp_of_list colors.now }
 {
-    let answer = list_refusal(colors.len());
-    if let Answer::Refused(_) = answer {
-        return MadeRamp {
-            answer,
-            ramp: ProcessedColorMap::default(),
-        };
-    }
-    MadeRamp {
-        answer,
-        ramp: ProcessedColorMap {
-            cmap: from_color_list(colors),
-        },
-    }
+    list_refusal(colors.len())?;
+    Ok(ProcessedColorMap {
+        cmap: from_color_list(colors),
+    })
 }
 
 // A ramp from a palette's number.
-pub fn create_for_preset(number: usize) -> MadeRamp
+#[tactic(auto, using(crate::proofs::Making::palette_refused, crate::proofs::Making::by_number))]
+pub fn create_for_preset(number: usize) -> Result<ProcessedColorMap, Refusal>
     ensures { result ≡ ramp_of_preset number }
 {
-    let chosen = palettes::palette_of(number);
-    let answer = chosen.answer;
-    if let Answer::Refused(_) = answer {
-        return MadeRamp {
-            answer,
-            ramp: ProcessedColorMap::default(),
-        };
-    }
-    let colors = chosen.colors;
-    let count = chosen.count;
-    create(&colors[..count])
+    let palette = palettes::palette_of(number)?;
+    let colors = palette.colors;
+    create(&colors[..palette.count])
 }
 
 #[tactic(auto, unfolding(crate::specs::Made::list_refusal))]
-fn list_refusal(count: usize) -> Answer
+fn list_refusal(count: usize) -> Result<(), Refusal>
     ensures { result ≡ list_refusal count }
 {
     if count < 2 {
-        return Answer::Refused(Refusal::TooFewColors);
+        return Err(Refusal::TooFewColors);
     }
     if count > 256 {
-        return Answer::Refused(Refusal::TooManyColors);
+        return Err(Refusal::TooManyColors);
     }
-    Answer::Done
+    Ok(())
 }
 
 // A list of 2 to 256 colours spread over a ramp: `create` refuses others.
@@ -88,10 +66,8 @@ fn from_color_list(colors: &[u32]) -> [u32; 256]
     ensures { result ≡ spread colors.now }
 {
     let mut cmap = [0u32; 256];
-    let mut i: usize = 0;
-    while i < 256 {
+    for i in 0..256 {
         cmap[i] = spread_at(colors, i);
-        i += 1;
     }
     cmap
 }
@@ -146,11 +122,9 @@ pub fn ramp_colors(cmap: &[u32; 256], count: usize) -> [u32; 256]
     let step = color_step(count);
     let mut position = 0.0f32;
     let mut colors = [0u32; 256];
-    let mut i: usize = 0;
-    while i < count {
+    for i in 0..count {
         colors[i] = lookup::get_color(cmap, position);
-        position = position + step;
-        i += 1;
+        position += step;
     }
     colors
 }
@@ -171,12 +145,7 @@ pub fn list_colors(colors: &[u32]) -> [u32; 256]
     requires { length colors.now ≤ 256 }
     ensures { result ≡ padded 0 256 colors.now }
 {
-    let n = colors.len();
     let mut result = [0u32; 256];
-    let mut i: usize = 0;
-    while i < n {
-        result[i] = colors[i];
-        i += 1;
-    }
+    result[..colors.len()].copy_from_slice(colors);
     result
 }

@@ -1,30 +1,23 @@
 // Settings, and the colours of samples that a legend does not map (docs/RULES.md, "Samples and settings").
+// Arrays hold sixteen lanes and `lanes` says how many count: contracts and must-fail edits speak of the places beyond (lanes_beyond_nodata).
 #![tactic(auto)]
 
 ghost use Rattle.std.specs.Prelude.{◌≡◌, cond, ◌≤◌, get_or};
 ghost use Rattle.std.specs.Float.{nan};
 ghost use Rattle.floats.specs.RampIndex.{nought};
 ghost use Rattle.lists.specs.Lanes.{LanesOf};
-ghost use Rattle.colormapper.specs.Settings.{or_else, color_if, given_flag, flag_of, unmappable_colors, no_settings};
+ghost use Rattle.colormapper.specs.Settings.{color_if, given_flag, flag_of, unmappable_colors, no_settings};
 ghost use Rattle.colormapper.specs.Unmappable.{unmappable};
 ghost use Rattle.colormapper.specs.forms.Exclusions.{excluded, value_or_nan, exclusions_of};
 
-use cast::Nodata;
 use color::Color;
-
-// A colour that may be absent.
-#[derive(Clone, Copy)]
-pub enum OptionalColor {
-    Given(u32),
-    Absent,
-}
 
 // The settings of a legend.
 #[derive(Clone, Copy)]
 pub struct MappingConfig {
     pub nodata_color: u32,
-    pub out_of_range_low_color: OptionalColor,
-    pub out_of_range_high_color: OptionalColor,
+    pub out_of_range_low_color: Option<u32>,
+    pub out_of_range_high_color: Option<u32>,
     pub zero_is_nodata: bool,
 }
 
@@ -49,48 +42,32 @@ impl MappingConfig {
     {
         MappingConfig {
             nodata_color: Color::TRANSPARENT.to_bits(),
-            out_of_range_low_color: OptionalColor::Absent,
-            out_of_range_high_color: OptionalColor::Absent,
+            out_of_range_low_color: None,
+            out_of_range_high_color: None,
             zero_is_nodata: false,
         }
-    }
-}
-
-// The colour given, or else another.
-pub fn unwrap_or(color: OptionalColor, other: u32) -> u32
-    ensures { result ≡ or_else color other }
-{
-    match color {
-        OptionalColor::Given(c) => c,
-        OptionalColor::Absent => other,
     }
 }
 
 // ---- flags, 0 or 1, for whoever stores settings as numbers
 
 // A colour beside the flag that says whether it is there.
-pub fn color_if(given: u32, color: u32) -> OptionalColor
+pub fn color_if(given: u32, color: u32) -> Option<u32>
     ensures { result ≡ color_if given color }
 {
-    if given == 1 {
-        return OptionalColor::Given(color);
-    }
-    OptionalColor::Absent
+    (given == 1).then_some(color)
 }
 
-pub fn given_flag(color: OptionalColor) -> u32
+pub fn given_flag(color: Option<u32>) -> u32
     ensures { result ≡ given_flag color }
 {
-    match color {
-        OptionalColor::Given(_) => 1,
-        OptionalColor::Absent => 0,
-    }
+    color.is_some() as u32
 }
 
 pub fn flag_of(set: bool) -> u32
     ensures { result ≡ flag_of set }
 {
-    if set { 1 } else { 0 }
+    set as u32
 }
 
 // ---- unmappable samples
@@ -99,24 +76,22 @@ pub fn flag_of(set: bool) -> u32
 pub fn compute_unmappable_colors(config: MappingConfig, low: u32, high: u32) -> UnmappableColors
     ensures { result ≡ unmappable_colors config low high }
 {
-    let given_low = config.out_of_range_low_color;
-    let given_high = config.out_of_range_high_color;
     UnmappableColors {
         nodata: config.nodata_color,
-        low: unwrap_or(given_low, low),
-        high: unwrap_or(given_high, high),
+        low: config.out_of_range_low_color.unwrap_or(low),
+        high: config.out_of_range_high_color.unwrap_or(high),
     }
 }
 
 // Whether a sample gets the nodata colour.
-pub fn is_unmappable(value: f32, nodata: Nodata, zero_is_nodata: bool) -> bool
+pub fn is_unmappable(value: f32, nodata: Option<f32>, zero_is_nodata: bool) -> bool
     ensures { result ≡ unmappable nodata zero_is_nodata value }
 {
     exclusions_of(nodata, zero_is_nodata).excludes(value)
 }
 
 // What the test of a sample needs, worked out once for a painting.
-pub fn exclusions_of(nodata: Nodata, zero_is_nodata: bool) -> Exclusions
+pub fn exclusions_of(nodata: Option<f32>, zero_is_nodata: bool) -> Exclusions
     ensures { result ≡ exclusions_of nodata zero_is_nodata }
 {
     Exclusions {
@@ -125,12 +100,12 @@ pub fn exclusions_of(nodata: Nodata, zero_is_nodata: bool) -> Exclusions
     }
 }
 
-fn value_or_nan(nodata: Nodata) -> f32
+fn value_or_nan(nodata: Option<f32>) -> f32
     ensures { result ≡ value_or_nan nodata }
 {
     match nodata {
-        Nodata::Value(v) => v,
-        Nodata::Absent => 0.0 / 0.0,
+        Some(v) => v,
+        None => 0.0 / 0.0,
     }
 }
 
@@ -156,6 +131,7 @@ impl Exclusions {
     }
 
     // The same for each lane. The lane count is a literal of the caller's.
+    #[tactic(auto, using(lists::proofs::LanesOf::stored_lanes))]
     pub fn masked_simd(
         self,
         lanes: usize,
@@ -167,10 +143,8 @@ impl Exclusions {
         ensures { LanesOf 0 lanes (λ k. cond (excluded self (get_or value k nan)) nodata (get_or color k 0)) result }
     {
         let mut result = [0u32; 16];
-        let mut i: usize = 0;
-        while i < lanes {
+        for i in 0..lanes {
             result[i] = self.masked(value[i], nodata, color[i]);
-            i += 1;
         }
         result
     }

@@ -1,4 +1,5 @@
 // The operators on f32.
+// One function for each: an operator is no value that a generic function could take, and tests call each on its own.
 ghost use Rattle.std.specs.Prelude.{◌≡◌, ◌↔◌, true};
 ghost use Rattle.floats.specs.Formats.{binary32};
 ghost use Rattle.floats.specs.Operations.{Adds, Subtracts, Multiplies, Divides, opposite};

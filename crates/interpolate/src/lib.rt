@@ -7,6 +7,7 @@ ghost use Rattle.floats.specs.RampIndex.{nought};
 ghost use Rattle.lists.specs.Lanes.{LanesOf};
 ghost use Rattle.interpolate.specs.Fraction.{fraction, plain_fraction};
 
+#[tactic(auto, unfolding(crate::specs::Fraction::plain_fraction))]
 pub fn linear_map_to_float(value: f32, min: f32, max: f32) -> f32
     ensures { result ≡ plain_fraction min max value }
 {
@@ -18,6 +19,7 @@ pub fn linear_map_to_float(value: f32, min: f32, max: f32) -> f32
 
 // One lane of `linear_map_to_float_simd`.
 // The quotient is worked out first, so that the two tests become selects.
+#[tactic(auto, unfolding(crate::specs::Fraction::fraction))]
 pub fn lane_fraction(value: f32, min: f32, max: f32) -> f32
     ensures { result ≡ fraction min max value }
 {
@@ -32,15 +34,14 @@ pub fn lane_fraction(value: f32, min: f32, max: f32) -> f32
 }
 
 // The lane count is a literal of the caller's: a test of it here would stand in every chunk.
+#[tactic(auto, using(lists::proofs::LanesOf::stored_lanes))]
 pub fn linear_map_to_float_simd(lanes: usize, value: [f32; 16], min: f32, max: f32) -> [f32; 16]
     requires { lanes ≤ 16 }
     ensures { LanesOf nought lanes (λ k. fraction min max (get_or value k nan)) result }
 {
     let mut result = [0.0f32; 16];
-    let mut i: usize = 0;
-    while i < lanes {
+    for i in 0..lanes {
         result[i] = lane_fraction(value[i], min, max);
-        i += 1;
     }
     result
 }

@@ -1,9 +1,9 @@
 -- What holds of a legend's painter whatever its kind. Assumes nothing.
+use Rattle.std.specs.Prelude.{Option}
 use mathlib.Core.Path.{◌≡◌, refl}
 use mathlib.Core.List.{List}
 use lib.Ieee.{Float}
 use lib.ListN.{length, length-map}
-use Rattle.cast.specs.declared.Nodata.{Nodata}
 use Rattle.painting.proofs.Masking.{length-masked}
 use Rattle.banded_lanes.proofs.LaneLaw.{lane-length}
 use Rattle.banded.specs.Record.{counted}
@@ -13,7 +13,7 @@ use Rattle.legend.specs.declared.Legend.{Legend}
 use Rattle.legend.specs.Record.{stored_in, stored_refusal, simd_in, simd_supported}
 use Rattle.legend.specs.Painters.{linear_painter, bands_painter, categoric_painter, painter_in, painter}
 
-module _ (l : Legend) (nodata : Nodata) where
+module _ (l : Legend) (nodata : (Option Float)) where
   stored_in_lem : (k : LegendKind) → (painter_in k l nodata).stored ≡ stored_in k l
   unfolding linear_painter bands_painter categoric_painter
   stored_in_lem kind.Linear = refl

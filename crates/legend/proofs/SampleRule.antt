@@ -1,9 +1,9 @@
 -- Painted plainly, a sample gets the colour of its rule. Assumes nothing.
+use Rattle.std.specs.Prelude.{Option}
 use mathlib.Core.Path.{◌≡◌, refl}
 use mathlib.Core.Bool.{Bool, true, false, cond}
 use Prim.Native.Nat.{ℕ}
 use lib.Ieee.{Float}
-use Rattle.cast.specs.declared.Nodata.{Nodata}
 use Rattle.colormapper.specs.Rule.{Rule, RuleColors, rule_color}
 use Rattle.colormapper.specs.Rule as rule
 use Rattle.colormapper.specs.Unmappable.{unmappable}
@@ -21,7 +21,7 @@ chosen : (b : Bool) (c : RuleColors) (r : Rule) → cond b c.unmappable.nodata (
 chosen true c r = refl
 chosen false c r = refl
 
-module _ (l : Legend) (nodata : Nodata) (v : Float) where
+module _ (l : Legend) (nodata : (Option Float)) (v : Float) where
   abbrev missing : Bool
   missing = unmappable nodata l.mapping_config.zero_is_nodata v
 

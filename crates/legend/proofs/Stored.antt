@@ -1,11 +1,11 @@
 -- What follows where a stored record is not refused: its counts are within capacity. Assumes nothing.
+use Rattle.std.specs.Prelude.{Ok}
 use mathlib.Core.Path.{◌≡◌, refl, sym, ap, ◌∙◌}
 use mathlib.Core.Bool.{Bool, true, false, ◌||◌, true≢false}
 use Prim.Native.Nat.{ℕ, ◌≤◌}
 use borrow.Author.Tests.{ltb-false}
 use lib.Dec.{ltb}
 use Rattle.refusal.specs.declared.Refusal.TheVariants.{CountAboveCapacity}
-use Rattle.refusal.specs.declared.Answer.TheVariants.{Done}
 use Rattle.refusal.proofs.Outcomes.{passed}
 use Rattle.banded.specs.Record.{banded_refusal}
 use Rattle.catgegoric.specs.Made.{categoric_refusal}
@@ -14,23 +14,23 @@ use Rattle.legend.specs.declared.LegendKind.TheVariants as kind
 use Rattle.legend.specs.declared.Legend.{Legend}
 use Rattle.legend.specs.Record.{stored_in, stored_refusal}
 
-pub few_bands : (count : ℕ) → banded_refusal count ≡ Done → count ≤ 64
+pub few_bands : (count : ℕ) → banded_refusal count ≡ Ok tt → count ≤ 64
 unfolding banded_refusal
-few_bands count e = ltb-false 64 count (passed (ltb 64 count) CountAboveCapacity Done e).0
+few_bands count e = ltb-false 64 count (passed (ltb 64 count) CountAboveCapacity (Ok tt) e).0
 
 pub neither : (a b : Bool) → (a || b) ≡ false → (a ≡ false) × (b ≡ false)
 neither true b e = absurd (true≢false e)
 neither false b e = (refl, e)
 
-pub few_categories : (count words : ℕ) → categoric_refusal count words ≡ Done → (count ≤ 256) × (words ≤ 513)
+pub few_categories : (count words : ℕ) → categoric_refusal count words ≡ Ok tt → (count ≤ 256) × (words ≤ 513)
 unfolding categoric_refusal
 few_categories count words e =
-    let n = neither (ltb 256 count) (ltb 513 words) (passed (ltb 256 count || ltb 513 words) CountAboveCapacity Done e).0 in
+    let n = neither (ltb 256 count) (ltb 513 words) (passed (ltb 256 count || ltb 513 words) CountAboveCapacity (Ok tt) e).0 in
     (ltb-false 256 count n.0, ltb-false 513 words n.1)
 
 -- of a legend of a kind
-module _ (l : Legend) (stored : stored_refusal l ≡ Done) where
-  pub of_kind : (k : LegendKind) → l.kind ≡ k → stored_in k l ≡ Done
+module _ (l : Legend) (stored : stored_refusal l ≡ Ok tt) where
+  pub of_kind : (k : LegendKind) → l.kind ≡ k → stored_in k l ≡ Ok tt
   unfolding stored_refusal
   of_kind k e = sym (ap (λ (x : LegendKind). stored_in x l) e) ∙ stored
 

@@ -1,8 +1,7 @@
 -- A legend: its kind beside the three records, of which that of its kind alone counts, and its settings (docs/RULES.md, "Where each call says no"). Definitions
 -- only.
 use Rattle.std.specs.Prelude.{ℕ, Bool, true, cond, [], ltb, eqb}
-use Rattle.refusal.specs.declared.Answer.{Answer}
-use Rattle.refusal.specs.declared.Answer.TheVariants.{Done}
+use Rattle.refusal.specs.Outcome.{Answer, Done}
 use Rattle.colormapper.specs.declared.MappingConfig.{MappingConfig}
 use Rattle.colormapper.specs.Settings.{no_settings}
 use Rattle.linear.specs.declared.Linear.{Linear}

@@ -1,7 +1,6 @@
 -- Which rule gives a sample its colour, painted plainly by a legend of any kind, and what the legend's rules take their colours from (docs/RULES.md,
 -- "Samples and settings", "Linear", "Banded", "Categoric"). That the colour is the painter's is `plain_by_rule` (proofs/SampleRule.antt). Definitions only.
-use Rattle.std.specs.Prelude.{cond, Float}
-use Rattle.cast.specs.declared.Nodata.{Nodata}
+use Rattle.std.specs.Prelude.{Option, cond, Float}
 use Rattle.colormapper.specs.Rule.{Rule, RuleColors}
 use Rattle.colormapper.specs.Rule as rule
 use Rattle.colormapper.specs.Unmappable.{unmappable}
@@ -22,7 +21,7 @@ rule_in kind.Linear l v = linear.plain_rule l.linear.start l.linear.end v
 rule_in kind.Banded l v = banded.plain_rule (counted l.banded) v
 rule_in kind.CategoricNumeric l v = keys.plain_rule l.categoric.keys l.categoric.count l.categoric.lookup_count v
 
-unfoldable pub sample_rule : Legend → Nodata → Float → Rule
+unfoldable pub sample_rule : Legend → Option Float → Float → Rule
 sample_rule l nodata v = cond (unmappable nodata l.mapping_config.zero_is_nodata v) rule.nodata (rule_in l.kind l v)
 
 -- the colours, by the legend's kind

@@ -8,7 +8,7 @@ use banded::Banded;
 use catgegoric::CategoricNumeric;
 use colormapper::MappingConfig;
 use linear::Linear;
-use refusal::Answer;
+use refusal::Refusal;
 
 #[derive(Clone, Copy)]
 pub enum LegendKind {
@@ -43,7 +43,7 @@ impl LegendKind {
     }
 }
 
-// A kind beside the three records, of which that of the kind alone counts: an enum cannot hold arrays.
+// A kind beside the three records, of which that of the kind alone counts, as C holds it: an enum would be taken apart at each call.
 #[derive(Clone, Copy)]
 pub struct Legend {
     pub kind: LegendKind,
@@ -99,17 +99,15 @@ impl Legend {
     }
 
     // 16: what the stored record of the legend's kind is refused by.
-    pub fn stored_refusal(self) -> Answer
-        ensures { result ≡ stored_refusal self }
+    #[tactic(auto, unfolding(crate::specs::Record::stored_refusal))]
+    pub fn stored_refusal(&self) -> Result<(), Refusal>
+        ensures { result ≡ stored_refusal self.now }
     {
-        let banded = self.banded;
-        let categoric = self.categoric;
-        let kind = self.kind;
-        match kind {
-            LegendKind::Linear => Answer::Done,
-            LegendKind::Banded => banded::banded_refusal(banded.count),
+        match self.kind {
+            LegendKind::Linear => Ok(()),
+            LegendKind::Banded => banded::banded_refusal(self.banded.count),
             LegendKind::CategoricNumeric => {
-                catgegoric::categoric_refusal(categoric.count, categoric.lookup_count)
+                catgegoric::categoric_refusal(self.categoric.count, self.categoric.lookup_count)
             }
         }
     }

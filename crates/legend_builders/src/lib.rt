@@ -9,78 +9,59 @@ ghost use Rattle.banded.specs.ManualRanges.{with_manual_ranges};
 ghost use Rattle.catgegoric.specs.Made.{for_values, for_values_from_ramp, for_value_range, for_value_range_from_ramp};
 ghost use Rattle.legend_builders.specs.Building.{linear_with_settings, banded_with_settings, categoric_with_settings};
 
-use banded::{Banded, MadeBanded};
+use banded::Banded;
 use banded_lists::ValueRanges;
-use catgegoric::{CategoricNumeric, MadeCategoric};
+use catgegoric::CategoricNumeric;
 use colormap::ProcessedColorMap;
 use colormapper::MappingConfig;
 use legend::Legend;
-use linear::{Linear, MadeLinear};
-use refusal::Answer;
-
-// A legend that was asked for: the empty one beside a refusal.
-#[derive(Clone, Copy)]
-pub struct MadeLegend {
-    pub answer: Answer,
-    pub legend: Legend,
-}
+use linear::Linear;
+use refusal::Refusal;
 
 // ---- from what a kind's builder made
 
-fn linear_with_settings(made: MadeLinear, config: MappingConfig) -> MadeLegend
+#[tactic(auto, unfolding(crate::specs::Building::linear_with_settings))]
+fn linear_with_settings(
+    made: Result<Linear, Refusal>,
+    config: MappingConfig,
+) -> Result<Legend, Refusal>
     ensures { result ≡ linear_with_settings made config }
 {
-    let answer = made.answer;
-    if let Answer::Refused(_) = answer {
-        return MadeLegend {
-            answer,
-            legend: Legend::empty(),
-        };
-    }
-    let linear = made.linear;
-    MadeLegend {
-        answer,
-        legend: Legend::with_linear(linear, config),
-    }
+    let linear = made?;
+    Ok(Legend::with_linear(linear, config))
 }
 
-pub fn banded_with_settings(made: MadeBanded, config: MappingConfig) -> MadeLegend
+#[tactic(auto, unfolding(crate::specs::Building::banded_with_settings))]
+pub fn banded_with_settings(
+    made: Result<Banded, Refusal>,
+    config: MappingConfig,
+) -> Result<Legend, Refusal>
     ensures { result ≡ banded_with_settings made config }
 {
-    let answer = made.answer;
-    if let Answer::Refused(_) = answer {
-        return MadeLegend {
-            answer,
-            legend: Legend::empty(),
-        };
-    }
-    let banded = made.banded;
-    MadeLegend {
-        answer,
-        legend: Legend::with_banded(banded, config),
-    }
+    let banded = made?;
+    Ok(Legend::with_banded(banded, config))
 }
 
-fn categoric_with_settings(made: MadeCategoric, config: MappingConfig) -> MadeLegend
+#[tactic(auto, unfolding(crate::specs::Building::categoric_with_settings))]
+fn categoric_with_settings(
+    made: Result<CategoricNumeric, Refusal>,
+    config: MappingConfig,
+) -> Result<Legend, Refusal>
     ensures { result ≡ categoric_with_settings made config }
 {
-    let answer = made.answer;
-    if let Answer::Refused(_) = answer {
-        return MadeLegend {
-            answer,
-            legend: Legend::empty(),
-        };
-    }
-    let categoric = made.categoric;
-    MadeLegend {
-        answer,
-        legend: Legend::with_categoric(categoric, config),
-    }
+    let categoric = made?;
+    Ok(Legend::with_categoric(categoric, config))
 }
 
 // ---- the builders. Colours come as a list or, by the names that say so, as a ramp.
+// Two functions each, as in the Rust: a ramp cannot be refused for its count of colours (9), and its colours are made only after the refusals.
 
-pub fn create_linear(colors: &[u32], start: f32, end: f32, config: MappingConfig) -> MadeLegend
+pub fn create_linear(
+    colors: &[u32],
+    start: f32,
+    end: f32,
+    config: MappingConfig,
+) -> Result<Legend, Refusal>
     ensures { result ≡ linear_with_settings (linear_of_list start end colors.now) config }
 {
     linear_with_settings(Linear::with_color_list(start, end, colors), config)
@@ -91,7 +72,7 @@ pub fn create_linear_from_ramp(
     start: f32,
     end: f32,
     config: MappingConfig,
-) -> MadeLegend
+) -> Result<Legend, Refusal>
     ensures { result ≡ linear_with_settings (linear_of_ramp start end ramp.cmap) config }
 {
     linear_with_settings(Linear::new(start, end, ramp), config)
@@ -103,7 +84,7 @@ pub fn create_banded(
     start: f32,
     end: f32,
     config: MappingConfig,
-) -> MadeLegend
+) -> Result<Legend, Refusal>
     ensures { result ≡ banded_with_settings (with_equal_bands count start end colors.now) config }
 {
     banded_with_settings(Banded::with_equal_bands(count, start, end, colors), config)
@@ -115,7 +96,7 @@ pub fn create_banded_from_ramp(
     start: f32,
     end: f32,
     config: MappingConfig,
-) -> MadeLegend
+) -> Result<Legend, Refusal>
     ensures { result ≡ banded_with_settings (with_equal_bands count start end (ramp_colors count cmap.now)) config }
 {
     banded_with_settings(
@@ -128,7 +109,7 @@ pub fn create_banded_manual_ranges(
     colors: &[u32],
     values: ValueRanges,
     config: MappingConfig,
-) -> MadeLegend
+) -> Result<Legend, Refusal>
     ensures { result ≡ banded_with_settings (with_manual_ranges values colors.now) config }
 {
     banded_with_settings(Banded::with_manual_ranges(values, colors), config)
@@ -138,7 +119,7 @@ pub fn create_banded_manual_ranges_from_ramp(
     cmap: &[u32; 256],
     values: ValueRanges,
     config: MappingConfig,
-) -> MadeLegend
+) -> Result<Legend, Refusal>
     ensures { result ≡ banded_with_settings (with_manual_ranges values (ramp_colors values.count cmap.now)) config }
 {
     banded_with_settings(Banded::with_manual_ranges_from_ramp(values, cmap), config)
@@ -148,7 +129,7 @@ pub fn create_categoric_for_value_list(
     colors: &[u32],
     values: &[i64],
     config: MappingConfig,
-) -> MadeLegend
+) -> Result<Legend, Refusal>
     ensures { result ≡ categoric_with_settings (for_values values.now colors.now) config }
 {
     categoric_with_settings(CategoricNumeric::for_values(values, colors), config)
@@ -158,7 +139,7 @@ pub fn create_categoric_for_value_list_from_ramp(
     cmap: &[u32; 256],
     values: &[i64],
     config: MappingConfig,
-) -> MadeLegend
+) -> Result<Legend, Refusal>
     ensures { result ≡ categoric_with_settings (for_values_from_ramp values.now cmap.now) config }
 {
     categoric_with_settings(CategoricNumeric::for_values_from_ramp(values, cmap), config)
@@ -169,7 +150,7 @@ pub fn create_categoric_for_value_range(
     start: i64,
     end: i64,
     config: MappingConfig,
-) -> MadeLegend
+) -> Result<Legend, Refusal>
     ensures { result ≡ categoric_with_settings (for_value_range start end colors.now) config }
 {
     categoric_with_settings(
@@ -183,7 +164,7 @@ pub fn create_categoric_for_value_range_from_ramp(
     start: i64,
     end: i64,
     config: MappingConfig,
-) -> MadeLegend
+) -> Result<Legend, Refusal>
     ensures { result ≡ categoric_with_settings (for_value_range_from_ramp start end cmap.now) config }
 {
     categoric_with_settings(

@@ -1,6 +1,6 @@
 // Cards, written and read.
+ghost use Rattle.refusal.specs.Outcome.{Done};
 ghost use Rattle.std.specs.Prelude.{◌≡◌};
-ghost use Rattle.refusal.specs.declared.Answer.TheVariants.{Done};
 ghost use Rattle.card_read.specs.Reading.{legend_of_card, title_of_card};
 ghost use Rattle.c_records.specs.Records.{made_to_c};
 ghost use Rattle.c_cards.specs.Cards.{WritingOutcome, title_part};

@@ -5,7 +5,6 @@ ghost use Rattle.legend_range.specs.ValueRanges.{total_value_range};
 ghost use Rattle.legend_pixel.specs.Values.{color_for_value};
 ghost use Rattle.legend_apply.specs.ColorLists.{color_list};
 ghost use Rattle.c_types.specs.Refusals.{legend_refusal, use_refusal};
-ghost use Rattle.legend_view.specs.Borrowed.{borrowed_legend};
 ghost use Rattle.c_records.specs.Views.{view_from_c};
 ghost use Rattle.c_records.specs.Records.{legend_from_c};
 ghost use Rattle.c_types.specs.Samples.{nodata_if};
@@ -30,7 +29,7 @@ pub extern "C" fn legend_view_color_for_f32(
     nodata: f32,
 ) -> LegendColor
     ensures { result ≡ pixel_to_c (use_refusal view.settings view.kind nodata_given)
-        (color_for_value (borrowed_legend (view_from_c view banded) cmap.now keys.now colors.now lookup.now)
+        (color_for_value (view_from_c view banded cmap.now keys.now colors.now lookup.now)
         (nodata_if nodata_given nodata) value) }
 {
     c_queries::uses::legend_view_color_for_f32(
@@ -59,7 +58,7 @@ pub extern "C" fn legend_view_color_for_u8(
     nodata: u8,
 ) -> LegendColor
     ensures { result ≡ pixel_to_c (use_refusal view.settings view.kind nodata_given)
-        (color_for_value (borrowed_legend (view_from_c view banded) cmap.now keys.now colors.now lookup.now)
+        (color_for_value (view_from_c view banded cmap.now keys.now colors.now lookup.now)
         (nodata_if nodata_given (of_u8 nodata)) (of_u8 value)) }
 {
     c_queries::uses::legend_view_color_for_u8(
@@ -88,7 +87,7 @@ pub extern "C" fn legend_view_color_for_i16(
     nodata: i16,
 ) -> LegendColor
     ensures { result ≡ pixel_to_c (use_refusal view.settings view.kind nodata_given)
-        (color_for_value (borrowed_legend (view_from_c view banded) cmap.now keys.now colors.now lookup.now)
+        (color_for_value (view_from_c view banded cmap.now keys.now colors.now lookup.now)
         (nodata_if nodata_given (of_i16 nodata)) (of_i16 value)) }
 {
     c_queries::uses::legend_view_color_for_i16(

@@ -2,107 +2,36 @@
 #![tactic(auto)]
 
 ghost use Rattle.std.specs.Prelude.{◌≡◌, cond, map, ◌≤◌, ◌<◌, length};
-ghost use Rattle.cast.specs.Samples.{of_u8, of_i16};
 ghost use Rattle.painting.specs.Painted.{scratch_after};
 ghost use Rattle.painting.specs.Paintings.{LanePainting};
 ghost use Rattle.legend.specs.Painters.{painter};
 ghost use Rattle.legend_view.specs.Borrowed.{borrowed_legend};
 
-use cast::Nodata;
+use legend_samples::PaintSample;
 use legend_view::View;
-use refusal::Answer;
+use refusal::Refusal;
 
-pub fn apply_to_data_kernel(
-    view: View,
-    cmap: &[u32; 256],
-    keys: &[i64; 256],
-    colors: &[u32; 256],
-    lookup: &[u32; 513],
+pub fn apply_to_data_kernel<S: PaintSample>(
+    view: View<'_>,
     lanes: usize,
-    src: &[f32],
-    nodata: Nodata,
+    src: &[S],
+    nodata: Option<f32>,
     out: &mut [u32],
     scratch: &mut [u32],
-) -> Answer
-    ensures { LanePainting (painter (borrowed_legend view cmap.now keys.now colors.now lookup.now) nodata)
-        lanes src.now out.old scratch.old result out.new scratch.new }
+) -> Result<(), Refusal>
+    ensures { LanePainting (painter (borrowed_legend view.entry) nodata)
+        lanes (map S.as_f32 src.now) out.old scratch.old result out.new scratch.new }
 {
-    let answer = painting::lane_refusal(
+    painting::lane_refusal(
         view.stored_refusal(),
         lanes,
         scratch.len(),
         src.len(),
         out.len(),
-    );
-    if let Answer::Refused(_) = answer {
-        return answer;
-    }
-    let simd = view.simd_supported();
-    legend_paint::paint_simd(view, cmap, keys, colors, lookup, nodata, lanes, src, out);
-    update_scratch(simd, lanes, out, scratch);
-    answer
-}
-
-pub fn apply_to_data_kernel_u8(
-    view: View,
-    cmap: &[u32; 256],
-    keys: &[i64; 256],
-    colors: &[u32; 256],
-    lookup: &[u32; 513],
-    lanes: usize,
-    src: &[u8],
-    nodata: Nodata,
-    out: &mut [u32],
-    scratch: &mut [u32],
-) -> Answer
-    ensures { LanePainting (painter (borrowed_legend view cmap.now keys.now colors.now lookup.now) nodata)
-        lanes (map of_u8 src.now) out.old scratch.old result out.new scratch.new }
-{
-    let answer = painting::lane_refusal(
-        view.stored_refusal(),
-        lanes,
-        scratch.len(),
-        src.len(),
-        out.len(),
-    );
-    if let Answer::Refused(_) = answer {
-        return answer;
-    }
-    let simd = view.simd_supported();
-    legend_samples::paint_u8(view, cmap, keys, colors, lookup, nodata, lanes, src, out);
-    update_scratch(simd, lanes, out, scratch);
-    answer
-}
-
-pub fn apply_to_data_kernel_i16(
-    view: View,
-    cmap: &[u32; 256],
-    keys: &[i64; 256],
-    colors: &[u32; 256],
-    lookup: &[u32; 513],
-    lanes: usize,
-    src: &[i16],
-    nodata: Nodata,
-    out: &mut [u32],
-    scratch: &mut [u32],
-) -> Answer
-    ensures { LanePainting (painter (borrowed_legend view cmap.now keys.now colors.now lookup.now) nodata)
-        lanes (map of_i16 src.now) out.old scratch.old result out.new scratch.new }
-{
-    let answer = painting::lane_refusal(
-        view.stored_refusal(),
-        lanes,
-        scratch.len(),
-        src.len(),
-        out.len(),
-    );
-    if let Answer::Refused(_) = answer {
-        return answer;
-    }
-    let simd = view.simd_supported();
-    legend_samples::paint_i16(view, cmap, keys, colors, lookup, nodata, lanes, src, out);
-    update_scratch(simd, lanes, out, scratch);
-    answer
+    )?;
+    S::paint(view, nodata, lanes, src, out);
+    update_scratch(view.simd_supported(), lanes, out, scratch);
+    Ok(())
 }
 
 // Scratch after lane painting: a legend without a rule for lanes, painted plainly, leaves it.

@@ -1,13 +1,14 @@
 -- What the painters of each kind are handed is what the legend's painter says: the sample's rule and the chunk's. Assumes nothing.
+use Rattle.std.specs.Prelude.{Option}
 use mathlib.Core.Path.{◌≡◌, refl, sym, ap, ap₂, fun_ext, ◌∙◌}
 use mathlib.Core.Bool.{Bool, true, false}
 use mathlib.Core.List.{List, map}
 use Prim.Native.Nat.{ℕ, ◌≤◌, ◌<◌}
+use denote.Bor.{Bor}
 use borrow.Author.Tests.{lt-ltb}
 use lib.Dec.{ltb}
 use lib.Ieee.{Float}
 use lib.ListN.{length}
-use Rattle.cast.specs.declared.Nodata.{Nodata}
 use Rattle.colormapper.specs.declared.MappingConfig.{MappingConfig}
 use Rattle.colormapper.specs.Unmappable.{unmappable}
 use Rattle.colormapper.specs.forms.Exclusions.{excluded, exclusions_of}
@@ -34,28 +35,32 @@ use Rattle.banded_chunk.specs.forms.Samples as bandedly
 use Rattle.categoric_paint.specs.forms.TableSamples.{table_sample, table_chunk}
 use Rattle.categoric_paint.specs.forms.KeySamples.{key_sample}
 use Rattle.legend.specs.Painters.{linear_painter, bands_painter, banded_painter, categoric_painter}
+use Rattle.legend_view.specs.Borrowed.{borrowed_linear}
 use Rattle.legend_paint.specs.forms.Paints.{linear_paint, banded_paint, categoric_paint}
 
 -- the two forms of the test of a sample
-test_is : (nodata : Nodata) (flag : Bool) → excluded (exclusions_of nodata flag) ≡ unmappable nodata flag
+test_is : (nodata : (Option Float)) (flag : Bool) → excluded (exclusions_of nodata flag) ≡ unmappable nodata flag
 test_is nodata flag = fun_ext (excluded-is nodata flag)
 
-module _ (config : MappingConfig) (nodata : Nodata) where
+module _ (config : MappingConfig) (nodata : (Option Float)) where
   abbrev tested : excluded (exclusions_of nodata config.zero_is_nodata) ≡ unmappable nodata config.zero_is_nodata
   tested = test_is nodata config.zero_is_nodata
 
-  module _ (l : Linear) where
-    pub linear-simd : (linear_painter l config nodata).simd ≡ true
+  module _ (cmap : Bor (List ℕ)) (start end : Float) where
+    abbrev lent : Linear
+    lent = borrowed_linear start end cmap.now
+
+    pub linear-simd : (linear_painter lent config nodata).simd ≡ true
     unfolding linear_painter
     linear-simd = refl
 
-    pub linear_sample : linearly.plain_sample l.cmap (linear_paint l config nodata) ≡ (linear_painter l config nodata).plain
+    pub linear_sample : linearly.plain_sample (linear_paint cmap start end config nodata) ≡ (linear_painter lent config nodata).plain
     unfolding linear_painter linear_colors
-    linear_sample = ap (λ t. masked_color t config.nodata_color (linear.plain_color l.cmap l.start l.end (linear_colors l.cmap config))) tested
+    linear_sample = ap (λ t. masked_color t config.nodata_color (linear.plain_color cmap.now start end (linear_colors cmap.now config))) tested
 
-    pub linear-chunk : linearly.lane_chunk l.cmap (linear_paint l config nodata) ≡ (linear_painter l config nodata).chunk
+    pub linear-chunk : linearly.lane_chunk (linear_paint cmap start end config nodata) ≡ (linear_painter lent config nodata).chunk
     unfolding linear_painter linear_colors
-    linear-chunk = ap (λ t vs. masked t config.nodata_color vs (linear.lane_colors l.cmap l.start l.end (linear_colors l.cmap config) vs)) tested
+    linear-chunk = ap (λ t vs. masked t config.nodata_color vs (linear.lane_colors cmap.now start end (linear_colors cmap.now config) vs)) tested
 
   module _ (b : Banded) where
     pub banded-simd : (banded_painter b config nodata).simd ≡ true
@@ -82,14 +87,14 @@ module _ (config : MappingConfig) (nodata : Nodata) where
           ∙ ap (λ (w : List ℕ). from_columns (map (λ (x : LegendBand). x.start) b.bands) (map (λ (x : LegendBand). x.end) b.bands) w b.count) g
           ∙ repacked b.count b.bands h
 
-      pub bands_sample : bandedly.plain_sample (from_columns starts ends colors p.count) p ≡ (banded_painter b config nodata).plain
+      pub bands_sample : bandedly.plain_sample (from_columns starts ends colors b.count) p ≡ (banded_painter b config nodata).plain
       bands_sample =
-          ap (λ (q : BandedPaint). bandedly.plain_sample (from_columns starts ends colors q.count) q) paint
+          ap (λ (q : BandedPaint). bandedly.plain_sample (from_columns starts ends colors b.count) q) paint
           ∙ ap (λ (bs : List LegendBand). bandedly.plain_sample bs (banded_paint b config nodata)) counted_is ∙ banded_sample
 
-      pub bands-chunk : bandedly.lane_chunk (from_columns starts ends colors p.count) p ≡ (banded_painter b config nodata).chunk
+      pub bands-chunk : bandedly.lane_chunk (from_columns starts ends colors b.count) p ≡ (banded_painter b config nodata).chunk
       bands-chunk =
-          ap (λ (q : BandedPaint). bandedly.lane_chunk (from_columns starts ends colors q.count) q) paint
+          ap (λ (q : BandedPaint). bandedly.lane_chunk (from_columns starts ends colors b.count) q) paint
           ∙ ap (λ (bs : List LegendBand). bandedly.lane_chunk bs (banded_paint b config nodata)) counted_is ∙ banded-chunk
 
   module _ (c : CategoricNumeric) where

@@ -3,7 +3,7 @@
 #![tactic(auto)]
 
 ghost use Rattle.std.specs.Prelude.{◌≡◌, true, ◌≤◌, length};
-ghost use Rattle.refusal.specs.declared.Answer.TheVariants.{Done};
+ghost use Rattle.refusal.specs.Outcome.{Done};
 ghost use Rattle.painting.specs.Paintings.{lane_count};
 ghost use Rattle.legend.specs.Record.{stored_refusal};
 ghost use Rattle.legend.specs.Painters.{painter, linear_painter, banded_painter, categoric_painter};
@@ -13,43 +13,49 @@ ghost use Rattle.legend_paint.specs.forms.PlainOrLanes.{painted, plain_or_lanes}
 
 use banded::Banded;
 use banded_chunk::BandedPaint;
-use cast::Nodata;
+use banded_rule::Columns;
+use categoric_keys::Keys;
 use categoric_paint::{CategoricPaint, keys, table};
+use categoric_table::Table;
 use colormapper::MappingConfig;
 use legend::LegendKind;
 use legend_view::View;
 use linear_paint::LinearPaint;
+use linear_rule::LinearRule;
 
 // ---- what each kind's painters are handed
 
-fn linear_paint(
+fn linear_paint<'a>(
     start: f32,
     end: f32,
-    cmap: &[u32; 256],
+    cmap: &'a [u32; 256],
     config: MappingConfig,
-    nodata: Nodata,
-) -> LinearPaint
-    ensures { result ≡ linear_paint (borrowed_linear start end cmap.now) config nodata }
+    nodata: Option<f32>,
+) -> LinearPaint<'a>
+    ensures { result ≡ linear_paint cmap.entry start end config nodata }
 {
+    let colors = linear::unmappable_colors(cmap, config);
     LinearPaint {
-        start,
-        end,
-        colors: linear::unmappable_colors(cmap, config),
+        rule: LinearRule {
+            cmap,
+            start,
+            end,
+            colors,
+        },
         exclusions: colormapper::exclusions_of(nodata, config.zero_is_nodata),
     }
 }
 
-fn banded_paint(banded: Banded, config: MappingConfig, nodata: Nodata) -> BandedPaint
+fn banded_paint(banded: Banded, config: MappingConfig, nodata: Option<f32>) -> BandedPaint
     ensures { result ≡ banded_paint banded config nodata }
 {
     BandedPaint {
-        count: banded.count,
         unmappable: banded::unmappable_colors(banded, config),
         exclusions: colormapper::exclusions_of(nodata, config.zero_is_nodata),
     }
 }
 
-fn categoric_paint(config: MappingConfig, nodata: Nodata) -> CategoricPaint
+fn categoric_paint(config: MappingConfig, nodata: Option<f32>) -> CategoricPaint
     ensures { result ≡ categoric_paint config nodata }
 {
     CategoricPaint {
@@ -66,7 +72,7 @@ fn paint_linear(
     end: f32,
     cmap: &[u32; 256],
     config: MappingConfig,
-    nodata: Nodata,
+    nodata: Option<f32>,
     lanes: usize,
     src: &[f32],
     out: &mut [u32],
@@ -74,18 +80,18 @@ fn paint_linear(
     requires { (plain_or_lanes lanes ≡ true) × (length out.old ≡ length src.now) }
     ensures { out.new ≡ painted (linear_painter (borrowed_linear start end cmap.now) config nodata) lanes src.now }
 {
-    let p = linear_paint(start, end, cmap, config, nodata);
+    let linear = linear_paint(start, end, cmap, config, nodata);
     if lanes == 0 {
-        linear_paint::paint(cmap, p, src, out);
+        linear.paint(src, out);
         return;
     }
-    linear_paint::paint_simd(cmap, p, lanes, src, out);
+    linear.paint_simd(lanes, src, out);
 }
 
 fn paint_banded(
     banded: Banded,
     config: MappingConfig,
-    nodata: Nodata,
+    nodata: Option<f32>,
     lanes: usize,
     src: &[f32],
     out: &mut [u32],
@@ -94,129 +100,86 @@ fn paint_banded(
     ensures { out.new ≡ painted (banded_painter banded config nodata) lanes src.now }
 {
     let p = banded_paint(banded, config, nodata);
-    let bands = banded.bands;
-    let starts = banded_columns::starts_of(bands);
-    let ends = banded_columns::ends_of(bands);
-    let colors = banded_columns::colors_of(bands);
+    let starts = banded_columns::starts_of(banded.bands);
+    let ends = banded_columns::ends_of(banded.bands);
+    let colors = banded_columns::colors_of(banded.bands);
+    let columns = Columns {
+        starts: &starts,
+        ends: &ends,
+        colors: &colors,
+        count: banded.count,
+    };
     if lanes == 0 {
-        banded_paint::paint(&starts, &ends, &colors, p, src, out);
+        banded_paint::paint(columns, p, src, out);
         return;
     }
-    banded_paint::paint_simd(&starts, &ends, &colors, p, lanes, src, out);
+    banded_paint::paint_simd(columns, p, lanes, src, out);
 }
 
 // Without a table it has no rule for lanes.
 fn paint_categoric(
-    keys: &[i64; 256],
-    colors: &[u32; 256],
-    count: usize,
-    lookup: &[u32; 513],
-    size: usize,
+    keys: Keys,
+    table: Table,
     config: MappingConfig,
-    nodata: Nodata,
+    nodata: Option<f32>,
     lanes: usize,
     src: &[f32],
     out: &mut [u32],
 )
-    requires { (count ≤ 256) × (size ≤ 513) × (plain_or_lanes lanes ≡ true) × (length out.old ≡ length src.now) }
+    requires { (plain_or_lanes lanes ≡ true) × (length out.old ≡ length src.now) }
     ensures { out.new
-        ≡ painted (categoric_painter (borrowed_categoric keys.now colors.now count lookup.now size) config nodata) lanes
-        src.now }
+        ≡ painted
+        (categoric_painter
+        (borrowed_categoric keys.entry.keys.now keys.entry.colors.now keys.entry.count table.entry.lookup.now
+        table.entry.size)
+        config nodata)
+        lanes src.now }
 {
     let p = categoric_paint(config, nodata);
-    if size == 0 {
-        keys::paint_by_keys(keys, colors, count, p, src, out);
+    if table.size == 0 {
+        keys::paint_by_keys(keys, p, src, out);
         return;
     }
     if lanes == 0 {
-        table::paint_by_table(lookup, size, p, src, out);
+        table::paint_by_table(table, p, src, out);
         return;
     }
-    table::paint_by_table_simd(lookup, size, p, lanes, src, out);
+    table::paint_by_table_simd(table, p, lanes, src, out);
 }
 
 // ---- a legend of any kind
 
 // Sample by sample, with an output of the raster's length.
-pub fn paint(
-    view: View,
-    cmap: &[u32; 256],
-    keys: &[i64; 256],
-    colors: &[u32; 256],
-    lookup: &[u32; 513],
-    nodata: Nodata,
-    src: &[f32],
-    out: &mut [u32],
-)
-    requires { (stored_refusal (borrowed_legend view cmap.now keys.now colors.now lookup.now) ≡ Done) × (length out.old ≡ length src.now) }
-    ensures { out.new
-        ≡ painted (painter (borrowed_legend view cmap.now keys.now colors.now lookup.now) nodata) 0
-        src.now }
+pub fn paint(view: View<'_>, nodata: Option<f32>, src: &[f32], out: &mut [u32])
+    requires { (stored_refusal (borrowed_legend view) ≡ Done) × (length out.old ≡ length src.now) }
+    ensures { out.new ≡ painted (painter (borrowed_legend view.entry) nodata) 0 src.now }
 {
-    let config = view.mapping_config;
-    let kind = view.kind;
-    match kind {
-        LegendKind::Linear => {
-            paint_linear(view.start, view.end, cmap, config, nodata, 0, src, out)
-        }
-        LegendKind::Banded => {
-            let banded = view.banded;
-            paint_banded(banded, config, nodata, 0, src, out)
-        }
-        LegendKind::CategoricNumeric => paint_categoric(
-            keys,
-            colors,
-            view.count,
-            lookup,
-            view.lookup_count,
-            config,
-            nodata,
-            0,
-            src,
-            out,
-        ),
-    }
+    paint_simd(view, nodata, 0, src, out);
 }
 
 // Chunks of l samples by the lane rule, then the rest plainly; a legend without a rule for lanes plainly.
-pub fn paint_simd(
-    view: View,
-    cmap: &[u32; 256],
-    keys: &[i64; 256],
-    colors: &[u32; 256],
-    lookup: &[u32; 513],
-    nodata: Nodata,
-    l: usize,
-    src: &[f32],
-    out: &mut [u32],
-)
-    requires { (stored_refusal (borrowed_legend view cmap.now keys.now colors.now lookup.now) ≡ Done) × (plain_or_lanes l ≡ true)
-        × (length out.old ≡ length src.now) }
-    ensures { out.new
-        ≡ painted (painter (borrowed_legend view cmap.now keys.now colors.now lookup.now) nodata) l
-        src.now }
+#[tactic(auto, unfolding(legend::specs::Painters::painter))]
+pub fn paint_simd(view: View<'_>, nodata: Option<f32>, l: usize, src: &[f32], out: &mut [u32])
+    requires { (stored_refusal (borrowed_legend view) ≡ Done) × (plain_or_lanes l ≡ true) × (length out.old ≡ length src.now) }
+    ensures { out.new ≡ painted (painter (borrowed_legend view.entry) nodata) l src.now }
 {
     let config = view.mapping_config;
-    let kind = view.kind;
-    match kind {
+    match view.kind {
         LegendKind::Linear => {
-            paint_linear(view.start, view.end, cmap, config, nodata, l, src, out)
+            paint_linear(view.start, view.end, view.cmap, config, nodata, l, src, out)
         }
-        LegendKind::Banded => {
-            let banded = view.banded;
-            paint_banded(banded, config, nodata, l, src, out)
+        LegendKind::Banded => paint_banded(*view.banded, config, nodata, l, src, out),
+        LegendKind::CategoricNumeric => {
+            let keys = Keys {
+                keys: view.keys,
+                colors: view.colors,
+                count: view.count,
+            };
+            let table = Table {
+                lookup: view.lookup,
+                size: view.lookup_count,
+            };
+            paint_categoric(keys, table, config, nodata, l, src, out)
         }
-        LegendKind::CategoricNumeric => paint_categoric(
-            keys,
-            colors,
-            view.count,
-            lookup,
-            view.lookup_count,
-            config,
-            nodata,
-            l,
-            src,
-            out,
-        ),
     }
 }

@@ -1,4 +1,6 @@
 -- The range of a legend's values, by what the code reads; and a stored key in range is an f32 without loss. Assumes nothing.
+use Rattle.std.specs.Prelude.{Ok, Err}
+use Rattle.refusal.specs.Outcome.{Answer, first_of}
 use mathlib.Core.Path.{◌≡◌, refl, sym, ap, subst, ◌∙◌}
 use mathlib.Core.Bool.{Bool, true, false, cond}
 use mathlib.Core.List.{List, [], ◌∷◌}
@@ -11,16 +13,11 @@ use lib.Signed.{mag, lt_z}
 use lib.Ieee.{binary32, of_int, of_bits, in_float}
 use Rattle.floats.specs.RampIndex.{nought}
 use lib.ListN.{length, get_or, take}
-use lib.Seq.{get_or-take, length-take-le}
 use mir.Syntax.{w64}
 use mir.Val.{to_z, of_z}
 use Rattle.refusal.specs.declared.Refusal.TheVariants.{KeyOutOfRange}
-use Rattle.refusal.specs.declared.Answer.{Answer}
-use Rattle.refusal.specs.declared.Answer.TheVariants.{Done, Refused}
-use Rattle.refusal.specs.Outcome.{first_of}
 use Rattle.refusal.proofs.Outcomes.{passed, not_done}
 use Rattle.banded_columns.specs.declared.LegendBand.{LegendBand}
-use Rattle.banded_columns.specs.Band.{last_of}
 use Rattle.banded_columns.proofs.Outer.{last_of_lem}
 use Rattle.categoric_build.specs.Table.{foremost, smallest, largest}
 use Rattle.categoric_lists.specs.Keys.{outside, outside_from, keys_refusal}
@@ -38,34 +35,35 @@ nothing : from_to (of_bits binary32 0) (of_bits binary32 0) ≡ from_to nought n
 unfolding of_bits
 nothing = refl
 
-pub bands-none : {n : ℕ} (xs : List LegendBand) → n ≡ 0 → from_to (of_bits binary32 0) (of_bits binary32 0) ≡ bands_range (take n xs)
+pub bands-none : (xs : List LegendBand) → length xs ≡ 0 → from_to (of_bits binary32 0) (of_bits binary32 0) ≡ bands_range xs
 unfolding bands_range
-bands-none xs e = nothing ∙ sym (ap (λ (k : ℕ). bands_range (take k xs)) e)
+bands-none [] e = nothing
+bands-none (x ∷ xs) e = absurd (omega arith)
 
-pub bands-from_to : (z : LegendBand) (n : ℕ) (xs : List LegendBand) → 0 < n → n ≤ length xs → from_to (get_or xs 0 z).start (get_or xs (n - 1) z).end
-    ≡ bands_range (take n xs)
+pub bands-from_to : (z : LegendBand) (xs : List LegendBand) → 0 < length xs → from_to (get_or xs 0 z).start (get_or xs (length xs - 1) z).end ≡ bands_range xs
 unfolding bands_range
-bands-from_to z zero xs h g = absurd (omega arith)
-bands-from_to z (suc n) [] h g = absurd (omega arith)
-bands-from_to z (suc n) (x ∷ xs) h g =
-    let l : length (take n xs) ≡ n = length-take-le n xs (omega arith) in
-    let p : suc n - 1 ≡ n = omega arith in
-    let last : get_or (x ∷ xs) (suc n - 1) z ≡ last_of x (take n xs) =
-    ap (λ (k : ℕ). get_or (x ∷ xs) k z) p
-    ∙ sym (last_of_lem z 0 x (take n xs) ∙ ap (λ (k : ℕ). get_or (x ∷ take n xs) k z) l ∙ get_or-take (suc n) (x ∷ xs) n z (omega arith)) in
-    ap (λ (b : LegendBand). from_to x.start b.end) last
+bands-from_to z [] h = absurd (omega arith)
+bands-from_to z (x ∷ xs) h =
+    let p : suc (length xs) - 1 ≡ length xs = omega arith in
+    ap (λ (b : LegendBand). from_to x.start b.end) (ap (λ (k : ℕ). get_or (x ∷ xs) k z) p ∙ sym (last_of_lem z 0 x xs))
+
+-- with an entry named by its place past the end
+pub ruleset some_bands = (bands-from_to)
 
 -- ---- keys
-pub keys_none : {n : ℕ} (keys : List ℤ) → n ≡ 0 → from_to (of_bits binary32 0) (of_bits binary32 0) ≡ keys_range (take n keys)
+pub keys_none : (keys : List ℤ) → length keys ≡ 0 → from_to (of_bits binary32 0) (of_bits binary32 0) ≡ keys_range keys
 unfolding keys_range
-keys_none keys e = nothing ∙ sym (ap (λ (k : ℕ). keys_range (take k keys)) e)
+keys_none [] e = nothing
+keys_none (k ∷ ks) e = absurd (omega arith)
+
+pub ruleset no_values = (bands-none, keys_none)
 
 pub keys-from_to : (keys : List ℤ) → 0 < length keys → from_to (of_int binary32 (smallest keys)) (of_int binary32 (largest keys)) ≡ keys_range keys
 unfolding keys_range
 keys-from_to [] h = absurd (omega arith)
 keys-from_to (k ∷ ks) h = refl
 
-inside : (i : ℕ) (keys : List ℤ) → outside_from i keys ≡ Done → (k : ℕ) → k < length keys → outside (get_or keys k (pos 0)) ≡ false
+inside : (i : ℕ) (keys : List ℤ) → outside_from i keys ≡ Ok tt → (k : ℕ) → k < length keys → outside (get_or keys k (pos 0)) ≡ false
 unfolding outside_from
 inside i [] e k h = absurd (omega arith)
 inside i (x ∷ xs) e zero h = (passed (outside x) (KeyOutOfRange i) (outside_from (suc i) xs) e).0
@@ -75,7 +73,7 @@ chosen : (b : Bool) (x y : ℤ) → outside x ≡ false → outside y ≡ false 
 chosen true x y p q = p
 chosen false x y p q = q
 
-foremost-inside : (before : ℤ → ℤ → Bool) (keys : List ℤ) → keys_refusal keys ≡ Done → 0 < length keys → (n : ℕ) → n ≤ length keys
+foremost-inside : (before : ℤ → ℤ → Bool) (keys : List ℤ) → keys_refusal keys ≡ Ok tt → 0 < length keys → (n : ℕ) → n ≤ length keys
     → outside (foremost before n keys) ≡ false
 unfolding foremost
 foremost-inside before keys e p zero h = inside 0 keys e 0 p
@@ -84,7 +82,7 @@ foremost-inside before keys e p (suc n) h =
     (foremost-inside before keys e p n (omega arith))
 
 -- the smallest and the largest are among the keys
-module _ (keys : List ℤ) (e : keys_refusal keys ≡ Done) (some : 0 < length keys) where
+module _ (keys : List ℤ) (e : keys_refusal keys ≡ Ok tt) (some : 0 < length keys) where
   pub smallest-inside : outside (smallest keys) ≡ false
   smallest-inside = foremost-inside lt_z keys e some (length keys) (omega arith)
 
@@ -107,15 +105,15 @@ pub fits : (z : ℤ) → outside z ≡ false → T (in_float binary32 (to_z w64 
 fits z e = subst (λ (x : ℤ). T (in_float binary32 x)) (sym (same z e)) (exact z e)
 
 -- ---- the two refusals
-both_done : (a b : Answer) → first_of a b ≡ Done → (a ≡ Done) × (b ≡ Done)
-both_done Done b e = (refl, e)
-both_done (Refused why) b e = not_done e
+both_done : (a b : Answer) → first_of a b ≡ Ok tt → (a ≡ Ok tt) × (b ≡ Ok tt)
+both_done (Ok _) b e = (refl, e)
+both_done (Err why) b e = not_done e
 
 module _ (l : Legend) where
-  pub range-stored : total_range_refusal l ≡ Done → stored_refusal l ≡ Done
+  pub range-stored : total_range_refusal l ≡ Ok tt → stored_refusal l ≡ Ok tt
   unfolding total_range_refusal
   range-stored e = (both_done (stored_refusal l) (keys_refusal (keys_in l.kind l)) e).0
 
-  pub range-keys : total_range_refusal l ≡ Done → l.kind ≡ kind.CategoricNumeric → keys_refusal (take l.categoric.count l.categoric.keys) ≡ Done
+  pub range-keys : total_range_refusal l ≡ Ok tt → l.kind ≡ kind.CategoricNumeric → keys_refusal (take l.categoric.count l.categoric.keys) ≡ Ok tt
   unfolding total_range_refusal
   range-keys e k = sym (ap (λ (x : LegendKind). keys_refusal (keys_in x l)) k) ∙ (both_done (stored_refusal l) (keys_refusal (keys_in l.kind l)) e).1

@@ -1,11 +1,10 @@
 -- The whole range of a legend's values (docs/RULES.md, "Painting"). Definitions only.
-use Rattle.std.specs.Prelude.{List, [], ◌∷◌, ℤ, Float, take}
+use Rattle.std.specs.Prelude.{Result, List, [], ◌∷◌, ℤ, Float, take}
+use Rattle.refusal.specs.Outcome.{Answer, first_of, made_unless}
+use Rattle.refusal.specs.declared.Refusal.{Refusal}
 use Rattle.std.specs.Float.{binary32}
 use Rattle.std.specs.Float.Ieee.{of_int}
 use Rattle.floats.specs.RampIndex.{nought}
-use Rattle.refusal.specs.declared.Answer.{Answer}
-use Rattle.refusal.specs.declared.Answer.TheVariants as answer
-use Rattle.refusal.specs.Outcome.{first_of}
 use Rattle.banded_columns.specs.declared.LegendBand.{LegendBand}
 use Rattle.banded_columns.specs.Band.{last_of}
 use Rattle.banded_lists.specs.declared.ValueRange.{ValueRange}
@@ -15,8 +14,6 @@ use Rattle.categoric_lists.specs.Keys.{keys_refusal}
 use Rattle.legend.specs.declared.LegendKind.{LegendKind}
 use Rattle.legend.specs.declared.LegendKind.TheVariants as kind
 use Rattle.legend.specs.declared.Legend.{Legend}
-use Rattle.legend_range.specs.declared.TotalRange.{TotalRange}
-use Rattle.legend_range.specs.declared.TotalRange.TheVariants as total
 use Rattle.legend.specs.Record.{stored_refusal}
 
 abbrev pub from_to : (start end : Float) → ValueRange
@@ -43,22 +40,9 @@ range_in kind.Linear l = from_to l.linear.start l.linear.end
 range_in kind.Banded l = bands_range (counted l.banded)
 range_in kind.CategoricNumeric l = keys_range (keys_in kind.CategoricNumeric l)
 
--- what the answer is, and its range: 0 and 0 beside a refusal
-abbrev pub range_answer : TotalRange → Answer
-range_answer (total.Range range) = answer.Done
-range_answer (total.Refused why) = answer.Refused why
-
-abbrev pub range_values : TotalRange → ValueRange
-range_values (total.Range range) = range
-range_values (total.Refused why) = from_to nought nought
-
 -- 16; 17 for a stored key
 unfoldable pub total_range_refusal : Legend → Answer
 total_range_refusal l = first_of (stored_refusal l) (keys_refusal (keys_in l.kind l))
 
-abbrev pub range_unless : Answer → ValueRange → TotalRange
-range_unless answer.Done range = total.Range range
-range_unless (answer.Refused why) range = total.Refused why
-
-unfoldable pub total_value_range : Legend → TotalRange
-total_value_range l = range_unless (total_range_refusal l) (range_in l.kind l)
+unfoldable pub total_value_range : Legend → Result ValueRange Refusal
+total_value_range l = made_unless (total_range_refusal l) (range_in l.kind l)

@@ -1,4 +1,5 @@
 -- The loop over blocks of samples of any type: its invariant, the first turn, each turn and the end. Assumes nothing.
+use Rattle.std.specs.Prelude.{Option}
 use mathlib.Core.Path.{◌≡◌, refl, sym, ap, ◌∙◌}
 use mathlib.Core.Logic.{◌⊎◌, inl, inr}
 use mathlib.Core.Bool.{true}
@@ -9,7 +10,6 @@ use lib.Ieee.{Float}
 use lib.ListN.{length, take, drop, length-map, length-drop}
 use lib.Seq.{length-take-le}
 use Rattle.lists.proofs.Numbers.{lt_or_le}
-use Rattle.cast.specs.declared.Nodata.{Nodata}
 use Rattle.painting.proofs.Blocks.{Splits, InBlocks, blocks_start, block_turn, blocks_end}
 use Rattle.legend.specs.declared.Legend.{Legend}
 use Rattle.legend.specs.Painters.{painter}
@@ -36,21 +36,21 @@ which i n h = go (lt_or_le n (i + 256))
     go (inl p) = inr (omega arith)
     go (inr p) = inl (omega arith)
 
-abbrev paint : Legend → Nodata → (lanes : ℕ) → List Float → List ℕ
+abbrev paint : Legend → Option Float → (lanes : ℕ) → List Float → List ℕ
 paint l nodata lanes = painted (painter l nodata) lanes
 
-at_blocks : (l : Legend) (nodata : Nodata) (lanes : ℕ) → plain_or_lanes lanes ≡ true → Splits 256 (paint l nodata lanes)
+at_blocks : (l : Legend) (nodata : (Option Float)) (lanes : ℕ) → plain_or_lanes lanes ≡ true → Splits 256 (paint l nodata lanes)
 at_blocks l nodata lanes h = splits (painter l nodata) (chunk-long l nodata) lanes h
 
 -- of the n samples, those below `from` are painted
-pub record Blocked {A : Type 0} (float : A → Float) (l : Legend) (nodata : Nodata) (lanes : ℕ) (src : List A) (n from : ℕ) (out : List ℕ) : Type 0 where
+pub record Blocked {A : Type 0} (float : A → Float) (l : Legend) (nodata : (Option Float)) (lanes : ℕ) (src : List A) (n from : ℕ) (out : List ℕ) : Type 0 where
   pub known : plain_or_lanes lanes ≡ true
   pub all : n ≡ length src
   pub upto : from ≤ n
   pub same : length out ≡ n
   pub is : InBlocks (paint l nodata lanes) (map float src) from out
 
-module _ {A : Type 0} {float : A → Float} {l : Legend} {nodata : Nodata} {lanes : ℕ} {src : List A} {out : List ℕ} where
+module _ {A : Type 0} {float : A → Float} {l : Legend} {nodata : (Option Float)} {lanes : ℕ} {src : List A} {out : List ℕ} where
   pub blocked_start : plain_or_lanes lanes ≡ true → length out ≡ length src → Blocked float l nodata lanes src (length src) 0 out
   blocked_start h e = record { known = h; all = refl; upto = omega arith; same = e; is = blocks_start (e ∙ sym (length-map src float)) }
 

@@ -1,4 +1,3 @@
 -- What the proofs of this crate share.
-mod Converting
 mod Blocked
 mod Splits

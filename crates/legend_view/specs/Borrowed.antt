@@ -1,4 +1,4 @@
--- A legend as its view and its borrowed arrays: the ramp, the keys with their colours, the table. Definitions only.
+-- The legend that a view shows: its ramp, its bands, its categories and its settings. Definitions only.
 use Rattle.std.specs.Prelude.{List, ℕ, ℤ, Float}
 use Rattle.linear.specs.declared.Linear.{Linear}
 use Rattle.catgegoric.specs.declared.CategoricNumeric.{CategoricNumeric}
@@ -11,24 +11,12 @@ borrowed_linear start end cmap = record { start = start; end = end; cmap = cmap 
 abbrev pub borrowed_categoric : (keys : List ℤ) (colors : List ℕ) (count : ℕ) (lookup : List ℕ) (size : ℕ) → CategoricNumeric
 borrowed_categoric keys colors count lookup size = record { keys = keys; colors = colors; count = count; lookup = lookup; lookup_count = size }
 
-abbrev pub borrowed_legend : View → (cmap : List ℕ) (keys : List ℤ) (colors lookup : List ℕ) → Legend
-borrowed_legend h cmap keys colors lookup =
+abbrev pub borrowed_legend : View → Legend
+borrowed_legend h =
     record {
       kind = h.kind;
-      linear = borrowed_linear h.start h.end cmap;
-      banded = h.banded;
-      categoric = borrowed_categoric keys colors h.count lookup h.lookup_count;
+      linear = borrowed_linear h.start h.end h.cmap.now;
+      banded = h.banded.now;
+      categoric = borrowed_categoric h.keys.now h.colors.now h.count h.lookup.now h.lookup_count;
       mapping_config = h.mapping_config;
-    }
-
-abbrev pub view_of : Legend → View
-view_of l =
-    record {
-      kind = l.kind;
-      start = l.linear.start;
-      end = l.linear.end;
-      banded = l.banded;
-      count = l.categoric.count;
-      lookup_count = l.categoric.lookup_count;
-      mapping_config = l.mapping_config;
     }

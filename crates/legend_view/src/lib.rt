@@ -1,49 +1,52 @@
-// A legend whose arrays are borrowed: what is left of it goes by value (docs/DECISIONS.md, "A legend's arrays are borrowed").
+// A legend whose arrays are borrowed (docs/DECISIONS.md, "A legend's arrays are borrowed").
 #![tactic(auto)]
 
-ghost use Rattle.std.specs.Prelude.{◌≡◌, List, ℕ, ℤ};
+ghost use Rattle.std.specs.Prelude.{◌≡◌};
 ghost use Rattle.legend.specs.Record.{stored_refusal, simd_supported};
-ghost use Rattle.legend_view.specs.Borrowed.{borrowed_legend, view_of};
+ghost use Rattle.legend_view.specs.Borrowed.{borrowed_legend};
 
 use banded::Banded;
 use colormapper::MappingConfig;
 use legend::{Legend, LegendKind};
-use refusal::Answer;
+use refusal::Refusal;
 
-// A legend without its ramp, its keys with their colours, and its table. The bands stay: an array of structs cannot be lent.
+// A legend whose arrays are borrowed.
 #[derive(Clone, Copy)]
-pub struct View {
+pub struct View<'a> {
     pub kind: LegendKind,
     pub start: f32,
     pub end: f32,
-    pub banded: Banded,
+    pub cmap: &'a [u32; 256],
+    pub banded: &'a Banded,
+    pub keys: &'a [i64; 256],
+    pub colors: &'a [u32; 256],
     pub count: usize,
+    pub lookup: &'a [u32; 513],
     pub lookup_count: usize,
     pub mapping_config: MappingConfig,
 }
 
-impl View {
-    // 16: what the stored record of the legend's kind is refused by, whatever the arrays hold.
-    pub fn stored_refusal(self) -> Answer
-        ensures { (cmap : List ℕ) (keys : List ℤ) (colors lookup : List ℕ) → result ≡ stored_refusal (borrowed_legend self cmap keys colors lookup) }
+impl<'a> View<'a> {
+    // 16: what the stored record of the legend's kind is refused by.
+    #[tactic(auto, unfolding(legend::specs::Record::stored_refusal))]
+    pub fn stored_refusal(self) -> Result<(), Refusal>
+        ensures { result ≡ stored_refusal (borrowed_legend self.entry) }
     {
-        let banded = self.banded;
-        let kind = self.kind;
-        match kind {
-            LegendKind::Linear => Answer::Done,
-            LegendKind::Banded => banded::banded_refusal(banded.count),
+        match self.kind {
+            LegendKind::Linear => Ok(()),
+            LegendKind::Banded => banded::banded_refusal(self.banded.count),
             LegendKind::CategoricNumeric => {
                 catgegoric::categoric_refusal(self.count, self.lookup_count)
             }
         }
     }
 
-    // Whether lanes have a rule of their own, whatever the arrays hold.
+    // Whether lanes have a rule of their own.
+    #[tactic(auto, unfolding(legend::specs::Record::simd_supported))]
     pub fn simd_supported(self) -> bool
-        ensures { (cmap : List ℕ) (keys : List ℤ) (colors lookup : List ℕ) → result ≡ simd_supported (borrowed_legend self cmap keys colors lookup) }
+        ensures { result ≡ simd_supported (borrowed_legend self.entry) }
     {
-        let kind = self.kind;
-        match kind {
+        match self.kind {
             LegendKind::Linear => true,
             LegendKind::Banded => true,
             LegendKind::CategoricNumeric => 0 < self.lookup_count,
@@ -51,22 +54,21 @@ impl View {
     }
 }
 
-// The view of a legend that is there by value.
-pub fn view_of(legend: Legend) -> View
-    ensures { result ≡ view_of legend }
+// The view of a legend whose arrays stand in it.
+pub fn view_of(legend: &Legend) -> View<'_>
+    ensures { borrowed_legend result ≡ legend.now }
 {
-    let linear = legend.linear;
-    let banded = legend.banded;
-    let categoric = legend.categoric;
-    let kind = legend.kind;
-    let config = legend.mapping_config;
     View {
-        kind,
-        start: linear.start,
-        end: linear.end,
-        banded,
-        count: categoric.count,
-        lookup_count: categoric.lookup_count,
-        mapping_config: config,
+        kind: legend.kind,
+        start: legend.linear.start,
+        end: legend.linear.end,
+        cmap: &legend.linear.cmap,
+        banded: &legend.banded,
+        keys: &legend.categoric.keys,
+        colors: &legend.categoric.colors,
+        count: legend.categoric.count,
+        lookup: &legend.categoric.lookup,
+        lookup_count: legend.categoric.lookup_count,
+        mapping_config: legend.mapping_config,
     }
 }

@@ -6,7 +6,7 @@ ghost use Rattle.linear.specs.Made.{empty_linear, range_refusal, linear_of_ramp,
 
 use colormap::ProcessedColorMap;
 use colormapper::{MappingConfig, UnmappableColors};
-use refusal::{Answer, Refusal};
+use refusal::Refusal;
 
 // A range of values and the ramp that it is coloured by.
 #[repr(C)]
@@ -15,13 +15,6 @@ pub struct Linear {
     pub start: f32,
     pub end: f32,
     pub cmap: [u32; 256],
-}
-
-// A linear record that was asked for: the empty one beside a refusal.
-#[derive(Clone, Copy)]
-pub struct MadeLinear {
-    pub answer: Answer,
-    pub linear: Linear,
 }
 
 impl Linear {
@@ -40,47 +33,32 @@ impl Linear {
     }
 
     // A range over a ramp.
-    pub fn new(start: f32, end: f32, color_map: ProcessedColorMap) -> MadeLinear
+    #[tactic(auto, unfolding(crate::specs::Made::linear_unless))]
+    pub fn new(start: f32, end: f32, color_map: ProcessedColorMap) -> Result<Linear, Refusal>
         ensures { result ≡ linear_of_ramp start end color_map.cmap }
     {
-        let answer = range_refusal(start, end);
-        if let Answer::Refused(_) = answer {
-            return MadeLinear {
-                answer,
-                linear: Linear::default(),
-            };
-        }
+        range_refusal(start, end)?;
         let cmap = color_map.cmap;
-        MadeLinear {
-            answer,
-            linear: Linear { start, end, cmap },
-        }
+        Ok(Linear { start, end, cmap })
     }
 
     // A range over a list of colours. The ramp is made before the range is tested.
-    pub fn with_color_list(start: f32, end: f32, colors: &[u32]) -> MadeLinear
+    #[tactic(auto, using(crate::proofs::Building::list_refused, crate::proofs::Building::list_made))]
+    pub fn with_color_list(start: f32, end: f32, colors: &[u32]) -> Result<Linear, Refusal>
         ensures { result ≡ linear_of_list start end colors.now }
     {
-        let made = colormap::create(colors);
-        let answer = made.answer;
-        if let Answer::Refused(_) = answer {
-            return MadeLinear {
-                answer,
-                linear: Linear::default(),
-            };
-        }
-        let ramp = made.ramp;
+        let ramp = colormap::create(colors)?;
         Linear::new(start, end, ramp)
     }
 }
 
-pub fn range_refusal(start: f32, end: f32) -> Answer
+pub fn range_refusal(start: f32, end: f32) -> Result<(), Refusal>
     ensures { result ≡ range_refusal start end }
 {
     if start > end {
-        return Answer::Refused(Refusal::StartAboveEnd);
+        return Err(Refusal::StartAboveEnd);
     }
-    Answer::Done
+    Ok(())
 }
 
 // The settings' colours, the ramp's ends where low or high is absent.

@@ -1,4 +1,5 @@
 -- A colour that is looked up first and replaced out of range is the rule's: one, and those of lanes, for any lane count. Assumes nothing.
+use Rattle.std.specs.Prelude.{Option, Some, None}
 use mathlib.Core.Path.{◌≡◌, refl, ap, ◌∙◌}
 use mathlib.Core.Bool.{Bool, true, false, cond}
 use mathlib.Core.List.{List}
@@ -8,8 +9,6 @@ use lib.ListN.{get_or}
 use Rattle.lists.specs.Lanes.{LanesOf}
 use Rattle.lists.proofs.LanesOf.{lane_at_lem, lanes_agree}
 use Rattle.interpolate.specs.Fraction.{fraction, plain_fraction}
-use Rattle.lookup.specs.declared.Entry.{Entry}
-use Rattle.lookup.specs.declared.Entry.TheVariants.{At, Outside}
 use Rattle.lookup.specs.Entries.{plain_entry, lane_entry, entry_color}
 use Rattle.colormapper.specs.declared.UnmappableColors.{UnmappableColors}
 use Rattle.colormapper.specs.Tolerance.{E}
@@ -17,13 +16,13 @@ use Rattle.colormapper.specs.Rule.{low, high, rule_color}
 use Rattle.linear_rule.specs.Rule.{by_range, entry_rule, rule_in_range, plain_rule, lane_rule, linear_rule_colors, plain_color, lane_color}
 
 module _ (cmap : List ℕ) (start end : Float) (u : UnmappableColors) (v : Float) where
-  chosen : (entry : Entry) → by_range start end v u.low u.high (entry_color cmap entry) ≡ rule_color (linear_rule_colors cmap u)
+  chosen : (entry : (Option ℕ)) → by_range start end v u.low u.high (entry_color cmap entry) ≡ rule_color (linear_rule_colors cmap u)
       (rule_in_range start end v entry)
   chosen entry = go (lt v (sub binary32 start E)) (lt (add binary32 end E) v)
     where
-      found : (entry : Entry) → entry_color cmap entry ≡ rule_color (linear_rule_colors cmap u) (entry_rule entry)
-      found (At k) = refl
-      found Outside = refl
+      found : (entry : (Option ℕ)) → entry_color cmap entry ≡ rule_color (linear_rule_colors cmap u) (entry_rule entry)
+      found (Some k) = refl
+      found None = refl
 
       go : (b a : Bool) → cond b u.low (cond a u.high (entry_color cmap entry)) ≡ rule_color (linear_rule_colors cmap u)
           (cond b low (cond a high (entry_rule entry)))
@@ -32,7 +31,7 @@ module _ (cmap : List ℕ) (start end : Float) (u : UnmappableColors) (v : Float
       go false false = found entry
 
   -- in phases: the fraction f, the colour that is looked up for it, and the range
-  phases : (rule : Float → Entry) {f g : Float} {color r : ℕ} → f ≡ g → color ≡ entry_color cmap (rule f) → r ≡ by_range start end v u.low u.high color
+  phases : (rule : Float → Option ℕ) {f g : Float} {color r : ℕ} → f ≡ g → color ≡ entry_color cmap (rule f) → r ≡ by_range start end v u.low u.high color
       → r ≡ rule_color (linear_rule_colors cmap u) (rule_in_range start end v (rule g))
   phases rule {f} {g} p q s = s ∙ ap (by_range start end v u.low u.high) (q ∙ ap (λ x. entry_color cmap (rule x)) p) ∙ chosen (rule g)
 

@@ -1,6 +1,7 @@
 -- Where the start is not above the end the lane rule is the plain rule, but at a fraction that is the f32 with the bits 3B008080: there the lane takes ramp
 -- entry 1, and plainly it is entry 0.
 -- Bounds and sample may be NaN or infinite. Assumes nothing.
+use Rattle.std.specs.Prelude.{Option, Some, None}
 use mathlib.Core.Path.{◌≡◌, refl, sym, ap, ◌∙◌}
 use mathlib.Core.Logic.{◌⊎◌, inl, inr, ◌≢◌}
 use mathlib.Core.Bool.{Bool, true, false, cond}
@@ -15,8 +16,6 @@ use lib.Ieee.Bits.{of_bits-to_bits}
 use Rattle.floats.specs.RampIndex.{nought, one, in_unit, plain_index, lane_index}
 use Rattle.floats.proofs.RampIndexLaw.{index_same, index_differs}
 use Rattle.interpolate.specs.Fraction.{fraction, plain_fraction}
-use Rattle.lookup.specs.declared.Entry.{Entry}
-use Rattle.lookup.specs.declared.Entry.TheVariants.{At, Outside}
 use Rattle.lookup.specs.Entries.{plain_entry, lane_entry}
 use Rattle.colormapper.specs.declared.UnmappableColors.{UnmappableColors}
 use Rattle.colormapper.specs.Tolerance.{E}
@@ -30,15 +29,15 @@ pub entry_same : (f : Float) → T (fits binary32 f) → to_bits binary32 f ≢ 
 unfolding plain_entry lane_entry
 entry_same f g n = go (in_unit f) (λ h. index_same f g h n)
   where
-    go : (b : Bool) → (T b → plain_index f ≡ lane_index f) → cond b (At (lane_index f)) Outside ≡ cond b (At (plain_index f)) Outside
-    go true e = ap At (sym (e tt))
+    go : (b : Bool) → (T b → plain_index f ≡ lane_index f) → cond b (Some (lane_index f)) None ≡ cond b (Some (plain_index f)) None
+    go true e = ap Some (sym (e tt))
     go false e = refl
 
 in_unit_lem : in_unit (of_bits binary32 0x3B00_8080) ≡ true
 unfolding of_bits le
 in_unit_lem = refl
 
-pub entry_differs : (f : Float) → T (fits binary32 f) → to_bits binary32 f ≡ 0x3B00_8080 → (lane_entry f ≡ At 1) × (plain_entry f ≡ At 0)
+pub entry_differs : (f : Float) → T (fits binary32 f) → to_bits binary32 f ≡ 0x3B00_8080 → (lane_entry f ≡ Some 1) × (plain_entry f ≡ Some 0)
 unfolding plain_entry lane_entry
 entry_differs f g b =
     let at : in_unit f ≡ true = ap in_unit (sym (of_bits-to_bits binary32 f g) ∙ ap (of_bits binary32) b) ∙ in_unit_lem in
@@ -71,7 +70,7 @@ module _ (start end v : Float) (ordered : lt end start ≡ false) where
 
   module _ (bits : to_bits binary32 (fraction start end v) ≡ 0x3B00_8080) (within : (lt v (sub binary32 start E) ≡ false) × (lt (add binary32 end E) v ≡ false))
     where
-      in_range_lem : (entry : Entry) → rule_in_range start end v entry ≡ entry_rule entry
+      in_range_lem : (entry : (Option ℕ)) → rule_in_range start end v entry ≡ entry_rule entry
       in_range_lem entry = rw (within.0, within.1)
 
       pub rule_differs : (lane_rule start end v ≡ ramp_entry 1) × (plain_rule start end v ≡ ramp_entry 0)

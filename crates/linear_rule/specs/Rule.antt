@@ -1,10 +1,8 @@
 -- The linear rule at one sample that is mappable, plainly and in a lane (docs/RULES.md, "Linear"). Definitions only.
-use Rattle.std.specs.Prelude.{ℕ, cond, List, [], map, Float}
+use Rattle.std.specs.Prelude.{Option, Some, None, ℕ, cond, List, [], map, Float}
 use Rattle.std.specs.Float.{binary32}
 use Rattle.std.specs.Float.Ieee.{add, sub, lt}
 use Rattle.interpolate.specs.Fraction.{fraction, plain_fraction}
-use Rattle.lookup.specs.declared.Entry.{Entry}
-use Rattle.lookup.specs.declared.Entry.TheVariants.{At, Outside}
 use Rattle.lookup.specs.Entries.{plain_entry, lane_entry}
 use Rattle.colormapper.specs.declared.UnmappableColors.{UnmappableColors}
 use Rattle.colormapper.specs.Rule.{Rule, ramp_entry, ramp_outside, low, high, RuleColors, rule_color}
@@ -15,11 +13,11 @@ abbrev pub by_range : {A : Type 0} → (start end v : Float) → A → A → A �
 by_range start end v x y z = cond (lt v (sub binary32 start E)) x (cond (lt (add binary32 end E) v) y z)
 
 -- what the fraction is looked up as
-abbrev pub entry_rule : Entry → Rule
-entry_rule (At k) = ramp_entry k
-entry_rule Outside = ramp_outside
+abbrev pub entry_rule : Option ℕ → Rule
+entry_rule (Some k) = ramp_entry k
+entry_rule None = ramp_outside
 
-abbrev pub rule_in_range : (start end v : Float) → Entry → Rule
+abbrev pub rule_in_range : (start end v : Float) → Option ℕ → Rule
 rule_in_range start end v entry = by_range start end v low high (entry_rule entry)
 
 unfoldable pub plain_rule : (start end v : Float) → Rule

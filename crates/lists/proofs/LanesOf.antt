@@ -11,7 +11,7 @@ use Rattle.lists.specs.Padded.{padded}
 use Rattle.lists.specs.Lanes.{Lanes, LanesOf}
 use Rattle.lists.proofs.Tabulated.{length-tabulate, get_d_tabulate, tabulated}
 use Rattle.lists.proofs.Numbers.{lt_or_le}
-use Rattle.lists.proofs.Padding.{Storing, length-padded, padded-full, take-padded, get_or-padded, get_d_past, storing_end}
+use Rattle.lists.proofs.Padding.{Storing, storing_start, storing_turn, length-padded, padded-full, take-padded, get_or-padded, get_d_past, storing_end}
 
 module _ {A : Type 0} {z : A} {l : ℕ} {f : ℕ → A} {r : List A} where
   -- a lane below l, whatever a list is said to hold past its end
@@ -66,3 +66,6 @@ pub lanes-blank : {A : Type 0} (z : A) (l : ℕ) (f : ℕ → A) → l ≤ 16 �
 lanes-blank z l f g h =
     lanes-each z z l f (replicate 16 z) g (length-replicate 16 z) (λ k q. get_or-replicate 16 k z z (omega arith) ∙ sym (h k q))
     (λ k q m. get_or-replicate 16 k z z m)
+
+-- a loop that stores the lanes below a count one by one, for the search: the first turn, each turn and the end
+pub ruleset stored_lanes = (storing_start, storing_turn, lanes-stored)

@@ -1,4 +1,5 @@
 -- What the code of the lookups works out is what the definitions say. Assumes nothing.
+use Rattle.std.specs.Prelude.{Some, None}
 use mathlib.Core.Path.{◌≡◌, refl, sym, ap, ◌∙◌, subst}
 use mathlib.Core.Bool.{Bool, true, false, cond, ◌&&◌}
 use mathlib.Core.List.{List}
@@ -8,8 +9,6 @@ use lib.Ieee.{Float, binary32, mul, le}
 use lib.ListN.{get_or}
 use Rattle.floats.specs.RampIndex.{c255, nought, one, half_up, in_unit, plain_index, lane_index}
 use Rattle.floats.proofs.RampBounds.{plain-is}
-use Rattle.lookup.specs.declared.Entry.{Entry}
-use Rattle.lookup.specs.declared.Entry.TheVariants.{At, Outside}
 use Rattle.lookup.specs.Entries.{plain_entry, lane_entry, entry_color}
 use Rattle.lookup.specs.forms.UnitOrZero.{unit_or_zero}
 
@@ -31,19 +30,19 @@ module _ (f : Float) where
   pub first_fails : le nought f ≡ false → in_unit f ≡ false
   first_fails h = cc
 
-  pub plain-inside : in_unit f ≡ true → At (half_up (mul binary32 f c255)) ≡ plain_entry f
+  pub plain-inside : in_unit f ≡ true → Some (half_up (mul binary32 f c255)) ≡ plain_entry f
   unfolding plain_entry
   plain-inside h = rw (h, plain-is f)
 
-  pub plain-outside : in_unit f ≡ false → Outside ≡ plain_entry f
+  pub plain-outside : in_unit f ≡ false → None ≡ plain_entry f
   unfolding plain_entry
   plain-outside h = rw h
 
-  pub lane_inside : in_unit f ≡ true → At (lane_index f) ≡ lane_entry f
+  pub lane_inside : in_unit f ≡ true → Some (lane_index f) ≡ lane_entry f
   unfolding lane_entry
   lane_inside h = rw h
 
-  pub lane-outside : in_unit f ≡ false → Outside ≡ lane_entry f
+  pub lane-outside : in_unit f ≡ false → None ≡ lane_entry f
   unfolding lane_entry
   lane-outside h = rw h
 
@@ -57,11 +56,11 @@ module _ (f : Float) where
 
   -- a colour looked up first and replaced outside
   chosen : (cmap : List ℕ) (index : Float → ℕ) → cond (in_unit f) (get_or cmap (index (unit_or_zero f)) 0) 0
-      ≡ entry_color cmap (cond (in_unit f) (At (index f)) Outside)
+      ≡ entry_color cmap (cond (in_unit f) (Some (index f)) None)
   unfolding unit_or_zero
   chosen cmap index = go (in_unit f)
     where
-      go : (b : Bool) → cond b (get_or cmap (index (cond b f nought)) 0) 0 ≡ entry_color cmap (cond b (At (index f)) Outside)
+      go : (b : Bool) → cond b (get_or cmap (index (cond b f nought)) 0) 0 ≡ entry_color cmap (cond b (Some (index f)) None)
       go true = refl
       go false = refl
 

@@ -1,4 +1,5 @@
 // Looking a fraction up in a ramp, plainly and in lanes (docs/RULES.md, "Colours and ramps").
+// Arrays hold sixteen lanes and `lanes` says how many count: contracts and must-fail edits speak of the places beyond (lanes_beyond_the_count).
 #![tactic(auto)]
 
 ghost use Rattle.std.specs.Prelude.{◌≡◌, true, cond, ◌≤◌, ◌<◌, get_or};
@@ -10,35 +11,28 @@ ghost use Rattle.lookup.specs.forms.UnitOrZero.{unit_or_zero};
 
 use color::Color;
 
-// What a fraction is looked up as.
-#[derive(Clone, Copy)]
-pub enum Entry {
-    At(usize),
-    Outside,
-}
-
 // The entry of a fraction.
-pub fn get_entry(fraction: f32) -> Entry
+pub fn get_entry(fraction: f32) -> Option<usize>
     ensures { result ≡ plain_entry fraction }
 {
     if fraction >= 0.0 {
         if fraction <= 1.0 {
-            return Entry::At(round::nearest(fraction * 255.0));
+            return Some(round::nearest(fraction * 255.0));
         }
     }
-    Entry::Outside
+    None
 }
 
 // The entry of a fraction by the rule of the lanes.
-pub fn get_entry_lane(fraction: f32) -> Entry
+pub fn get_entry_lane(fraction: f32) -> Option<usize>
     ensures { result ≡ lane_entry fraction }
 {
     if fraction >= 0.0 {
         if fraction <= 1.0 {
-            return Entry::At(lane_index(fraction));
+            return Some(lane_index(fraction));
         }
     }
-    Entry::Outside
+    None
 }
 
 // The colour of a fraction.
@@ -61,44 +55,41 @@ pub fn get_color_simd(lanes: usize, cmap: &[u32; 256], fraction: [f32; 16]) -> [
 }
 
 // Each lane's entry, that of 0 for a fraction outside.
+#[tactic(auto, using(lists::proofs::LanesOf::stored_lanes))]
 fn gather(lanes: usize, cmap: &[u32; 256], fraction: [f32; 16]) -> [u32; 16]
     requires { lanes ≤ 16 }
     ensures { LanesOf 0 lanes (λ k. get_or cmap.now (lane_index (unit_or_zero (get_or fraction k nan))) 0) result }
 {
     let mut result = [0u32; 16];
-    let mut i: usize = 0;
-    while i < lanes {
+    for i in 0..lanes {
         let index = lane_index(unit_or_zero(fraction[i]));
         result[i] = cmap[index];
-        i += 1;
     }
     result
 }
 
 // The colours of sixteen fractions by the plain rule, in the same way.
+#[tactic(auto, using(lists::proofs::LanesOf::stored_lanes))]
 pub fn get_colors(cmap: &[u32; 256], fraction: [f32; 16]) -> [u32; 16]
     ensures { LanesOf 0 16 (λ k. entry_color cmap.now (plain_entry (get_or fraction k nan))) result }
 {
     let mut result = [0u32; 16];
-    let mut i: usize = 0;
-    while i < 16 {
+    for i in 0..16 {
         result[i] = get_color(cmap, fraction[i]);
-        i += 1;
     }
     result
 }
 
 // The colours of the fractions from 0 to 1, TRANSPARENT for others.
+#[tactic(auto, using(lists::proofs::LanesOf::stored_lanes))]
 fn mask_outside(lanes: usize, fraction: [f32; 16], colors: [u32; 16]) -> [u32; 16]
     requires { lanes ≤ 16 }
     ensures { LanesOf 0 lanes (λ k. cond (in_unit (get_or fraction k nan)) (get_or colors k 0) 0) result }
 {
     let transparent = Color::TRANSPARENT.to_bits();
     let mut result = [0u32; 16];
-    let mut i: usize = 0;
-    while i < lanes {
+    for i in 0..lanes {
         result[i] = select::pick(in_unit(fraction[i]), colors[i], transparent);
-        i += 1;
     }
     result
 }

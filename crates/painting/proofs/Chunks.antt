@@ -1,4 +1,5 @@
 -- THE CHUNKING RULE over whole outputs, for any lane count above 0 and any kind: from a law of one chunk to what the two contracts promise. Assumes nothing.
+use Rattle.std.specs.Prelude.{Ok}
 use mathlib.Core.Path.{◌≡◌, refl, sym, ap, subst, subst₂, ◌∙◌}
 use mathlib.Core.Logic.{◌⊎◌, inl, inr, ⊎_elim}
 use mathlib.Core.Bool.{Bool, true, false, cond, true≢false}
@@ -9,7 +10,6 @@ use native.Mathlib.Omega.{arith}
 use lib.Ieee.{Float, nan}
 use lib.ListN.{length, take, drop, get_or, length-drop, get_or-append}
 use lib.Seq.{length-take-le, get_or-take, get_or-drop, get_or-append-add}
-use Rattle.refusal.specs.declared.Answer.TheVariants.{Done}
 use Rattle.lists.proofs.Numbers.{lt_or_le}
 use Rattle.painting.specs.Painted.{chunked, full, lane_painted}
 use Rattle.painting.specs.Paintings.{Painter, PlainPainting, LanePainting}
@@ -115,10 +115,10 @@ module _ (p : Painter) (L : ℕ) (t : Terms) (law : PainterLaw p L t) where
   abbrev in_lanes_lem : Bool → List Float → List ℕ
   in_lanes_lem b xs = cond b (lane_painted L p.chunk p.plain xs) (map p.plain xs)
 
-  plain_at : {xs : List Float} {o o' : List ℕ} → PlainPainting p xs o Done o' → (i : ℕ) → i < length xs → get_or o' i 0 ≡ p.plain (get_or xs i nan)
+  plain_at : {xs : List Float} {o o' : List ℕ} → PlainPainting p xs o (Ok tt) o' → (i : ℕ) → i < length xs → get_or o' i 0 ≡ p.plain (get_or xs i nan)
   plain_at {xs} {o} P i l = ap (λ w. get_or w i 0) P.output ∙ sym (get_or-map_in p.plain xs i nan 0 l)
 
-  lane_at_lem : {xs : List Float} {q q' s s' : List ℕ} → LanePainting p L xs q s Done q' s' → (i : ℕ) → get_or q' i 0 ≡ get_or (in_lanes_lem p.simd xs) i 0
+  lane_at_lem : {xs : List Float} {q q' s s' : List ℕ} → LanePainting p L xs q s (Ok tt) q' s' → (i : ℕ) → get_or q' i 0 ≡ get_or (in_lanes_lem p.simd xs) i 0
   lane_at_lem P i = ap (λ w. get_or w i 0) P.output
 
   -- at one pixel
@@ -148,17 +148,17 @@ module _ (p : Painter) (L : ℕ) (t : Terms) (law : PainterLaw p L t) where
       sym (get_or-map_in p.plain xs i nan 0 l) ∙ law.plain_by_sample (get_or xs i nan) (get_or ys i nan) a ∙ get_or-map_in p.plain ys i nan 0 (omega arith)
 
   -- ---- of any two calls that keep their contracts and are not refused, whatever output and scratch held before
-  pub pixel_same : {xs : List Float} {o o' q q' s s' : List ℕ} → PlainPainting p xs o Done o' → LanePainting p L xs q s Done q' s' → (i : ℕ) → i < length xs
+  pub pixel_same : {xs : List Float} {o o' q q' s s' : List ℕ} → PlainPainting p xs o (Ok tt) o' → LanePainting p L xs q s (Ok tt) q' s' → (i : ℕ) → i < length xs
       → (get_or q' i 0 ≡ get_or o' i 0) ⊎ ((i < full L (length xs)) × t.RoundingException (get_or xs i nan))
   pixel_same {xs} P Q i l = ⊎_elim (λ e. inl (lane_at_lem Q i ∙ e ∙ sym (plain_at P i l))) (λ o. inr o) (same_at p.simd law.chunks xs i l)
 
-  pub pixel_differs : {xs : List Float} {o o' q q' s s' : List ℕ} → PlainPainting p xs o Done o' → LanePainting p L xs q s Done q' s'
+  pub pixel_differs : {xs : List Float} {o o' q q' s s' : List ℕ} → PlainPainting p xs o (Ok tt) o' → LanePainting p L xs q s (Ok tt) q' s'
       → (i : ℕ) → i < full L (length xs) → t.RoundingException (get_or xs i nan) → (get_or q' i 0 ≡ t.lane-color) × (get_or o' i 0 ≡ t.plain-color)
   pixel_differs {xs} P Q i l o =
       let d = differs_at p.simd law.chunks (law.exception-in_lanes (get_or xs i nan) o) xs i l o in
       (lane_at_lem Q i ∙ d.0, plain_at P i (lt_of_lt_of_le l (div-mul-le_self (length xs) L)) ∙ d.1)
 
   -- the lane paintings of two rasters of one length
-  pub pixel_alone : {xs ys : List Float} {q q' s s' r r' u u' : List ℕ} → LanePainting p L xs q s Done q' s' → LanePainting p L ys r u Done r' u'
+  pub pixel_alone : {xs ys : List Float} {q q' s s' r r' u u' : List ℕ} → LanePainting p L xs q s (Ok tt) q' s' → LanePainting p L ys r u (Ok tt) r' u'
       → length xs ≡ length ys → (i : ℕ) → i < length xs → t.Alike (get_or xs i nan) (get_or ys i nan) → get_or q' i 0 ≡ get_or r' i 0
   pixel_alone {xs} {ys} P Q e i l a = lane_at_lem P i ∙ alone_at p.simd law.chunks xs ys e i l a ∙ sym (lane_at_lem Q i)

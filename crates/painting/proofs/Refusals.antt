@@ -1,4 +1,6 @@
 -- The rows of a painting's refusals, from what each test of the code found; and what follows where nothing is refused. Assumes nothing.
+use Rattle.std.specs.Prelude.{Ok, Err}
+use Rattle.refusal.specs.Outcome.{Answer, refuse_if, first_of}
 use mathlib.Core.Path.{◌≡◌, refl, sym, ap, subst}
 use mathlib.Core.Bool.{Bool, true, false, not, ◌||◌}
 use Prim.Native.Nat.{ℕ, ◌≤◌, ◌<◌}
@@ -7,45 +9,42 @@ use borrow.Author.Tests.{eqb-true, ltb-false, not-false, ne_eqb}
 use lib.Dec.{T, ltb, eqb}
 use Rattle.refusal.specs.declared.Refusal.{Refusal}
 use Rattle.refusal.specs.declared.Refusal.TheVariants.{OutputLengthDiffers, NoSuchLaneCount, ScratchTooShort}
-use Rattle.refusal.specs.declared.Answer.{Answer}
-use Rattle.refusal.specs.declared.Answer.TheVariants.{Done, Refused}
-use Rattle.refusal.specs.Outcome.{refuse_if, first_of}
 use Rattle.refusal.proofs.Outcomes.{passed, first_done}
 use Rattle.painting.specs.Paintings.{length_refusal, plain_refusal, lane_count, lane_refusal}
 
 module _ {b : Answer} where
   -- a stored record that is refused comes first
-  pub plain-stored : {why : Refusal} (n o : ℕ) → b ≡ Refused why → Refused why ≡ plain_refusal b n o
+  pub plain-stored : {why : Refusal} (n o : ℕ) → b ≡ Err why → Err why ≡ plain_refusal b n o
   unfolding plain_refusal
   plain-stored n o e = sym (ap (λ a. first_of a (length_refusal n o)) e)
 
-  pub lane-stored : {why : Refusal} (L s n o : ℕ) → b ≡ Refused why → Refused why ≡ lane_refusal b L s n o
+  pub lane-stored : {why : Refusal} (L s n o : ℕ) → b ≡ Err why → Err why ≡ lane_refusal b L s n o
   unfolding lane_refusal
   lane-stored L s n o e = sym (ap (λ a. first_of a (refuse_if (not (lane_count L)) NoSuchLaneCount (refuse_if (ltb s 16) ScratchTooShort (length_refusal n o)))) e)
 
-  pub plain_sound : (n o : ℕ) → b ≡ Done → length_refusal n o ≡ plain_refusal b n o
+  pub plain_sound : (n o : ℕ) → b ≡ Ok tt → length_refusal n o ≡ plain_refusal b n o
   unfolding plain_refusal
   plain_sound n o e = sym (ap (λ a. first_of a (length_refusal n o)) e)
 
-  pub lane_sound : (L s n o : ℕ) → b ≡ Done → lane_refusal Done L s n o ≡ lane_refusal b L s n o
+  pub lane_sound : (L s n o : ℕ) → b ≡ Ok tt → lane_refusal (Ok tt) L s n o ≡ lane_refusal b L s n o
   lane_sound L s n o e = sym (ap (λ a. lane_refusal a L s n o) e)
 
 -- ---- what no refusal tells
 
-pub same-length_of : (n o : ℕ) → length_refusal n o ≡ Done → o ≡ n
-same-length_of n o e = eqb-true o n (not-false (eqb o n) (passed (not (eqb o n)) OutputLengthDiffers Done e).0)
+pub same-length_of : (n o : ℕ) → length_refusal n o ≡ Ok tt → o ≡ n
+same-length_of n o e = eqb-true o n (not-false (eqb o n) (passed (not (eqb o n)) OutputLengthDiffers (Ok tt) e).0)
 
-pub plain_free : (a : Answer) (n o : ℕ) → plain_refusal a n o ≡ Done → (a ≡ Done) × (o ≡ n)
+pub plain_free : (a : Answer) (n o : ℕ) → plain_refusal a n o ≡ Ok tt → (a ≡ Ok tt) × (o ≡ n)
 unfolding plain_refusal
 plain_free a n o e = let f = first_done a (length_refusal n o) e in (f.0, same-length_of n o f.1)
 
 pub record Free (a : Answer) (L s n o : ℕ) : Type 0 where
-  pub sound : a ≡ Done
+  pub sound : a ≡ Ok tt
   pub count : lane_count L ≡ true
   pub room : 16 ≤ s
   pub same : o ≡ n
 
-pub lane_free : (a : Answer) (L s n o : ℕ) → lane_refusal a L s n o ≡ Done → Free a L s n o
+pub lane_free : (a : Answer) (L s n o : ℕ) → lane_refusal a L s n o ≡ Ok tt → Free a L s n o
 unfolding lane_refusal
 lane_free a L s n o e =
     let rest = refuse_if (ltb s 16) ScratchTooShort (length_refusal n o) in

@@ -1,4 +1,6 @@
 -- From what the parts of a painter promise to the two whole contracts. Assumes nothing.
+use Rattle.std.specs.Prelude.{Ok, Err}
+use Rattle.refusal.specs.Outcome.{Answer}
 use mathlib.Core.Path.{◌≡◌, sym, ap, ◌∙◌}
 use mathlib.Core.Bool.{cond}
 use mathlib.Core.List.{List, [], ◌++◌, map, append-nil}
@@ -8,8 +10,6 @@ use lib.Ieee.{Float}
 use lib.ListN.{length, take, drop, length-drop, drop_of_length-le}
 use lib.Seq.{paste, take_all}
 use Rattle.refusal.specs.declared.Refusal.{Refusal}
-use Rattle.refusal.specs.declared.Answer.{Answer}
-use Rattle.refusal.specs.declared.Answer.TheVariants.{Done, Refused}
 use Rattle.refusal.proofs.Outcomes.{when_done, when_refused}
 use Rattle.painting.specs.Painted.{plain_painted, lane_painted, scratch_after}
 use Rattle.painting.specs.forms.ChunkOver.{chunk_over}
@@ -49,11 +49,11 @@ rest_none plain xs out i e o =
 
 -- ---- the raster has n samples, and xs are these as f32. Refused, with everything as it was, and done
 module _ (p : Painter) (xs : List Float) (out : List ℕ) {n : ℕ} (m : n ≡ length xs) {a : Answer} where
-  pub plain_refused : a ≡ plain_refusal p.stored n (length out) → {why : Refusal} → a ≡ Refused why → PlainPainting p xs out a out
+  pub plain_refused : a ≡ plain_refusal p.stored n (length out) → {why : Refusal} → a ≡ Err why → PlainPainting p xs out a out
   plain_refused d e =
       record { answered = d ∙ ap (λ k. plain_refusal p.stored k (length out)) m; output = sym (when_refused (plain_painted p.plain xs) out e) }
 
-  pub plain_done : a ≡ plain_refusal p.stored n (length out) → a ≡ Done → {out' : List ℕ} → out' ≡ plain_painted p.plain xs → PlainPainting p xs out a out'
+  pub plain_done : a ≡ plain_refusal p.stored n (length out) → a ≡ Ok tt → {out' : List ℕ} → out' ≡ plain_painted p.plain xs → PlainPainting p xs out a out'
   plain_done d e w =
       record { answered = d ∙ ap (λ k. plain_refusal p.stored k (length out)) m; output = w ∙ sym (when_done (plain_painted p.plain xs) out e) }
 
@@ -64,7 +64,7 @@ module _ (p : Painter) (xs : List Float) (out : List ℕ) {n : ℕ} (m : n ≡ l
     asked : a ≡ lane_refusal p.stored L (length scratch) (length xs) (length out)
     asked = d ∙ ap (λ k. lane_refusal p.stored L (length scratch) k (length out)) m
 
-    pub lane_refused : {why : Refusal} → a ≡ Refused why → LanePainting p L xs out scratch a out scratch
+    pub lane_refused : {why : Refusal} → a ≡ Err why → LanePainting p L xs out scratch a out scratch
     lane_refused e =
         record {
           answered = asked;

@@ -1,6 +1,6 @@
 -- Unmappable samples become nodata, last of all (docs/RULES.md, "Samples and settings" and "Banded"). Definitions only.
+use Rattle.refusal.specs.Outcome.{Answer}
 use Rattle.std.specs.Prelude.{ℕ, Bool, cond, List, [], ◌∷◌, Float}
-use Rattle.refusal.specs.declared.Answer.{Answer}
 use Rattle.painting.specs.Paintings.{Painter}
 
 -- the lanes of a chunk, with their colours

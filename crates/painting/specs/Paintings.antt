@@ -1,9 +1,7 @@
 -- The whole contracts of the two paintings, for every legend and every sample type: the answer, the output and the scratch, for every input. Definitions only.
 use Rattle.std.specs.Prelude.{◌≡◌, Bool, cond, not, ◌||◌, List, ℕ, ltb, eqb, Float, length}
+use Rattle.refusal.specs.Outcome.{Answer, Done, refuse_if, if_done, first_of}
 use Rattle.refusal.specs.declared.Refusal.TheVariants.{OutputLengthDiffers, NoSuchLaneCount, ScratchTooShort}
-use Rattle.refusal.specs.declared.Answer.{Answer}
-use Rattle.refusal.specs.declared.Answer.TheVariants.{Done}
-use Rattle.refusal.specs.Outcome.{refuse_if, if_done, first_of}
 use Rattle.painting.specs.Painted.{plain_painted, lane_painted, scratch_after}
 
 -- 13 output length differs from raster length

@@ -10,44 +10,34 @@ ghost use Rattle.lists.specs.Padded.{padded};
 ghost use Rattle.painting.specs.Painted.{scratch_after};
 ghost use Rattle.painting.specs.Paintings.{length_refusal, plain_refusal, lane_count, lane_refusal};
 
-use refusal::{Answer, Refusal};
+use refusal::Refusal;
 
 // ---- refusals
 
 // `stored` is what the legend's stored record is refused by, which comes first.
-pub fn plain_refusal(stored: Answer, raster: usize, out: usize) -> Answer
+#[tactic(auto, unfolding(crate::specs::Paintings::plain_refusal))]
+pub fn plain_refusal(stored: Result<(), Refusal>, raster: usize, out: usize) -> Result<(), Refusal>
     ensures { result ≡ plain_refusal stored raster out }
 {
-    match stored {
-        Answer::Refused(why) => Answer::Refused(why),
-        Answer::Done => length_refusal(raster, out),
-    }
+    stored.and(length_refusal(raster, out))
 }
 
+#[tactic(auto, unfolding(crate::specs::Paintings::lane_refusal))]
 pub fn lane_refusal(
-    stored: Answer,
+    stored: Result<(), Refusal>,
     lanes: usize,
     scratch: usize,
     raster: usize,
     out: usize,
-) -> Answer
+) -> Result<(), Refusal>
     ensures { result ≡ lane_refusal stored lanes scratch raster out }
 {
-    match stored {
-        Answer::Refused(why) => Answer::Refused(why),
-        Answer::Done => buffer_refusal(lanes, scratch, raster, out),
-    }
-}
-
-#[tactic(auto, unfolding(crate::specs::Paintings::lane_refusal))]
-fn buffer_refusal(lanes: usize, scratch: usize, raster: usize, out: usize) -> Answer
-    ensures { result ≡ lane_refusal Answer.Done lanes scratch raster out }
-{
+    stored?;
     if !lane_count(lanes) {
-        return Answer::Refused(Refusal::NoSuchLaneCount);
+        return Err(Refusal::NoSuchLaneCount);
     }
     if scratch < 16 {
-        return Answer::Refused(Refusal::ScratchTooShort);
+        return Err(Refusal::ScratchTooShort);
     }
     length_refusal(raster, out)
 }
@@ -58,13 +48,13 @@ fn lane_count(lanes: usize) -> bool
     (lanes == 4) | (lanes == 8) | (lanes == 16)
 }
 
-fn length_refusal(raster: usize, out: usize) -> Answer
+fn length_refusal(raster: usize, out: usize) -> Result<(), Refusal>
     ensures { result ≡ length_refusal raster out }
 {
     if out == raster {
-        return Answer::Done;
+        return Ok(());
     }
-    Answer::Refused(Refusal::OutputLengthDiffers)
+    Err(Refusal::OutputLengthDiffers)
 }
 
 // ---- chunks. The lane count is a literal of the caller's, who has a whole chunk at hand, or what is left of a raster.
@@ -75,11 +65,7 @@ pub fn load(l: usize, src: &[f32], base: usize) -> [f32; 16]
     ensures { result ≡ padded (of_bits binary32 0) 16 (take l (drop base src.now)) }
 {
     let mut v = [0.0f32; 16];
-    let mut i: usize = 0;
-    while i < l {
-        v[i] = src[base + i];
-        i += 1;
-    }
+    v[..l].copy_from_slice(&src[base..base + l]);
     v
 }
 
@@ -88,11 +74,7 @@ pub fn store(l: usize, c: [u32; 16], base: usize, out: &mut [u32])
     requires { (l ≤ 16) × (base + l ≤ length out.old) }
     ensures { out.new ≡ paste out.old base c l }
 {
-    let mut i: usize = 0;
-    while i < l {
-        out[base + i] = c[i];
-        i += 1;
-    }
+    out[base..base + l].copy_from_slice(&c[..l]);
 }
 
 // ---- scratch
@@ -102,11 +84,7 @@ fn copied(l: usize, from: &[u32], at: usize, to: &mut [u32])
     requires { (at + l ≤ length from.now) × (l ≤ length to.old) }
     ensures { to.new ≡ paste to.old 0 (drop at from.now) l }
 {
-    let mut i: usize = 0;
-    while i < l {
-        to[i] = from[at + i];
-        i += 1;
-    }
+    to[..l].copy_from_slice(&from[at..at + l]);
 }
 
 // After lane painting: the last full chunk's words to the front of scratch, which the refusals have seen to be long enough.

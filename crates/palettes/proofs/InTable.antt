@@ -1,7 +1,7 @@
 -- The table of palettes: where each begins, how many colours it has, and that the table's part there is the palette, each by one computed test over the table.
 -- Assumes nothing.
-use mathlib.Core.Path.{◌≡◌, refl, sym, ap, ◌∙◌, subst}
-use mathlib.Core.Bool.{Bool, true, false, ◌&&◌}
+use mathlib.Core.Path.{◌≡◌, sym, ap, ◌∙◌, subst}
+use mathlib.Core.Bool.{Bool, true, ◌&&◌}
 use mathlib.Core.List.{List, [], ◌∷◌, ◌++◌, flatten}
 use Prim.Native.Nat.{ℕ, zero, suc, ◌+◌, ◌≤◌, ◌<◌}
 use native.Mathlib.Nat.{le_of_suc-le-suc, not-suc-le-zero, add_assoc, zero-add}
@@ -12,7 +12,6 @@ use lib.ListN.{length, get_or, take, length-append, get_or-append, get_or-eq_def
 use lib.Seq.{get_or-append-add}
 use mathlib.Core.Logic.{inl, inr}
 use Rattle.lists.proofs.Numbers.{lt_or_le}
-use Rattle.color.specs.Word.{word_of}
 use Rattle.palettes.specs.Palettes.{palettes, palette, palette_table, offset}
 
 -- a test at each place of a list, the first being i

@@ -8,48 +8,44 @@ ghost use Rattle.lists.specs.Padded.{padded};
 ghost use Rattle.palettes.specs.Palettes.{palette, palette_table, offset};
 ghost use Rattle.palettes.specs.Asked.{preset_refusal, palette_of};
 
-use refusal::{Answer, Refusal};
+use refusal::Refusal;
 use table::{COLORS, LENGTHS, OFFSETS};
 
-// A palette's colours: the first `count`, and 0 from there on. No colours beside a refusal.
+// A palette's colours: the first `count`, and 0 from there on.
 #[derive(Clone, Copy)]
 pub struct Palette {
-    pub answer: Answer,
     pub colors: [u32; 12],
     pub count: usize,
 }
 
 // The colours of a palette's number.
-pub fn palette_of(number: usize) -> Palette
+#[tactic(auto, unfolding(crate::specs::Asked::palette_of))]
+pub fn palette_of(number: usize) -> Result<Palette, Refusal>
     ensures { result ≡ palette_of number }
 {
-    let answer = preset_refusal(number);
-    let colors = palette_colors(number);
-    let count = palette_length(number);
-    Palette {
-        answer,
-        colors,
-        count,
-    }
+    preset_refusal(number)?;
+    Ok(Palette {
+        colors: palette_colors(number),
+        count: palette_length(number),
+    })
 }
 
-fn preset_refusal(number: usize) -> Answer
+#[tactic(auto, unfolding(crate::specs::Asked::preset_refusal))]
+fn preset_refusal(number: usize) -> Result<(), Refusal>
     ensures { result ≡ preset_refusal number }
 {
     if number > 31 {
-        return Answer::Refused(Refusal::NoSuchPalette);
+        return Err(Refusal::NoSuchPalette);
     }
-    Answer::Done
+    Ok(())
 }
 
 fn palette_colors(number: usize) -> [u32; 12]
     ensures { result ≡ padded 0 12 (palette number) }
 {
     let mut colors = [0u32; 12];
-    let mut i: usize = 0;
-    while i < 12 {
+    for i in 0..12 {
         colors[i] = palette_color(number, i);
-        i += 1;
     }
     colors
 }

@@ -1,14 +1,11 @@
 -- The table of refusals (docs/RULES.md, "Where each call says no"): each case's number, and its index where the table names one. Definitions only.
-use Rattle.std.specs.Prelude.{ℕ}
+use Rattle.std.specs.Prelude.{ℕ, Option, Some, None, Ok, Err}
+use Rattle.refusal.specs.Outcome.{Answer}
 use Rattle.refusal.specs.declared.Refusal.{Refusal}
 use Rattle.refusal.specs.declared.Refusal.TheVariants.{EmptyText, NotHexColor, NotHexByte, TooFewColors, TooManyColors, NoSuchPalette, StartAboveEnd}
 use Rattle.refusal.specs.declared.Refusal.TheVariants.{TooManyBands, ColorCountDiffers, EmptyRange, TooManyCategories, RangeTooWide}
 use Rattle.refusal.specs.declared.Refusal.TheVariants.{OutputLengthDiffers, NoSuchLaneCount, ScratchTooShort, CountAboveCapacity, KeyOutOfRange}
 use Rattle.refusal.specs.declared.Refusal.TheVariants.{CardUnknown, CardMalformed, CardTooLong, BadFlag, BadKind}
-use Rattle.refusal.specs.declared.Index.{Index}
-use Rattle.refusal.specs.declared.Index.TheVariants.{At, Absent}
-use Rattle.refusal.specs.declared.Answer.{Answer}
-use Rattle.refusal.specs.declared.Answer.TheVariants.{Done, Refused}
 
 abbrev pub number_of : Refusal → ℕ
 -- hex colour
@@ -42,35 +39,35 @@ number_of BadFlag = 100
 number_of BadKind = 101
 
 -- the first bad pair, range or key, counted from 0
-abbrev pub index_of : Refusal → Index
-index_of EmptyText = Absent
-index_of NotHexColor = Absent
-index_of (NotHexByte pair) = At pair
-index_of TooFewColors = Absent
-index_of TooManyColors = Absent
-index_of NoSuchPalette = Absent
-index_of StartAboveEnd = Absent
-index_of TooManyBands = Absent
-index_of ColorCountDiffers = Absent
-index_of (EmptyRange range) = At range
-index_of TooManyCategories = Absent
-index_of RangeTooWide = Absent
-index_of OutputLengthDiffers = Absent
-index_of NoSuchLaneCount = Absent
-index_of ScratchTooShort = Absent
-index_of CountAboveCapacity = Absent
-index_of (KeyOutOfRange key) = At key
-index_of CardUnknown = Absent
-index_of CardMalformed = Absent
-index_of CardTooLong = Absent
-index_of BadFlag = Absent
-index_of BadKind = Absent
+abbrev pub index_of : Refusal → Option ℕ
+index_of EmptyText = None
+index_of NotHexColor = None
+index_of (NotHexByte pair) = Some pair
+index_of TooFewColors = None
+index_of TooManyColors = None
+index_of NoSuchPalette = None
+index_of StartAboveEnd = None
+index_of TooManyBands = None
+index_of ColorCountDiffers = None
+index_of (EmptyRange range) = Some range
+index_of TooManyCategories = None
+index_of RangeTooWide = None
+index_of OutputLengthDiffers = None
+index_of NoSuchLaneCount = None
+index_of ScratchTooShort = None
+index_of CountAboveCapacity = None
+index_of (KeyOutOfRange key) = Some key
+index_of CardUnknown = None
+index_of CardMalformed = None
+index_of CardTooLong = None
+index_of BadFlag = None
+index_of BadKind = None
 
 -- 0 and no index where nothing is refused
 abbrev pub answer_number : Answer → ℕ
-answer_number Done = 0
-answer_number (Refused why) = number_of why
+answer_number (Ok _) = 0
+answer_number (Err why) = number_of why
 
-abbrev pub answer_index : Answer → Index
-answer_index Done = Absent
-answer_index (Refused why) = index_of why
+abbrev pub answer_index : Answer → Option ℕ
+answer_index (Ok _) = None
+answer_index (Err why) = index_of why

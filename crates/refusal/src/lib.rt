@@ -1,11 +1,11 @@
-// The refusals of docs/RULES.md, and what a call answers: done, or refused.
+// The refusals of docs/RULES.md: the error of every call that can refuse.
 #![tactic(auto)]
 
 ghost use Rattle.std.specs.Prelude.{◌≡◌};
 ghost use Rattle.refusal.specs.Table.{number_of, index_of, answer_number, answer_index};
 
 // One case for each number of the table, in its order, and one for each refusal of the interface for C. An index is held where the table names one.
-#[derive(Clone, Copy)]
+#[derive(Clone, Copy, PartialEq, Eq, Debug)]
 pub enum Refusal {
     EmptyText,
     NotHexColor,
@@ -29,20 +29,6 @@ pub enum Refusal {
     CardTooLong,
     BadFlag,
     BadKind,
-}
-
-// The index that a refusal carries.
-#[derive(Clone, Copy)]
-pub enum Index {
-    At(usize),
-    Absent,
-}
-
-// What a call answers whose result stands beside it or in a lent buffer.
-#[derive(Clone, Copy)]
-pub enum Answer {
-    Done,
-    Refused(Refusal),
 }
 
 impl Refusal {
@@ -77,54 +63,32 @@ impl Refusal {
     }
 
     // The index of the part that was refused, where the table names one.
-    pub fn index(self) -> Index
+    pub fn index(self) -> Option<usize>
         ensures { result ≡ index_of self }
     {
         match self {
-            Refusal::EmptyText => Index::Absent,
-            Refusal::NotHexColor => Index::Absent,
-            Refusal::NotHexByte(i) => Index::At(i),
-            Refusal::TooFewColors => Index::Absent,
-            Refusal::TooManyColors => Index::Absent,
-            Refusal::NoSuchPalette => Index::Absent,
-            Refusal::StartAboveEnd => Index::Absent,
-            Refusal::TooManyBands => Index::Absent,
-            Refusal::ColorCountDiffers => Index::Absent,
-            Refusal::EmptyRange(i) => Index::At(i),
-            Refusal::TooManyCategories => Index::Absent,
-            Refusal::RangeTooWide => Index::Absent,
-            Refusal::OutputLengthDiffers => Index::Absent,
-            Refusal::NoSuchLaneCount => Index::Absent,
-            Refusal::ScratchTooShort => Index::Absent,
-            Refusal::CountAboveCapacity => Index::Absent,
-            Refusal::KeyOutOfRange(i) => Index::At(i),
-            Refusal::CardUnknown => Index::Absent,
-            Refusal::CardMalformed => Index::Absent,
-            Refusal::CardTooLong => Index::Absent,
-            Refusal::BadFlag => Index::Absent,
-            Refusal::BadKind => Index::Absent,
+            Refusal::NotHexByte(i) | Refusal::EmptyRange(i) | Refusal::KeyOutOfRange(i) => Some(i),
+            _ => None,
         }
     }
 }
 
-impl Answer {
-    // The refusal's number, and 0 where nothing is refused.
-    pub fn number(self) -> u32
-        ensures { result ≡ answer_number self }
-    {
-        match self {
-            Answer::Done => 0,
-            Answer::Refused(why) => why.number(),
-        }
+// The number of what a call answers: that of its refusal, and 0 where nothing is refused.
+pub fn answer_number(answer: Result<(), Refusal>) -> u32
+    ensures { result ≡ answer_number answer }
+{
+    match answer {
+        Ok(()) => 0,
+        Err(why) => why.number(),
     }
+}
 
-    // The refusal's index.
-    pub fn index(self) -> Index
-        ensures { result ≡ answer_index self }
-    {
-        match self {
-            Answer::Done => Index::Absent,
-            Answer::Refused(why) => why.index(),
-        }
+// The index of what a call answers: that of its refusal, where the table names one.
+pub fn answer_index(answer: Result<(), Refusal>) -> Option<usize>
+    ensures { result ≡ answer_index answer }
+{
+    match answer {
+        Ok(()) => None,
+        Err(why) => why.index(),
     }
 }

@@ -1,4 +1,5 @@
 -- A text's first bytes, and fractions looked up lane by lane. Assumes nothing.
+use Rattle.std.specs.Prelude.{Option}
 use mathlib.Core.Bool.{Bool, true, false, cond}
 use mathlib.Core.List.{List}
 use mathlib.Core.Path.{◌≡◌, refl, sym}
@@ -11,7 +12,6 @@ use lib.ListN.{length, get_or, take}
 use lib.Seq.{length-take-le}
 use Rattle.lists.specs.Lanes.{Lanes}
 use Rattle.lists.proofs.Tabulated.{tabulated}
-use Rattle.lookup.specs.declared.Entry.{Entry}
 use Rattle.lookup.specs.Entries.{entry_color}
 use Rattle.words.specs.Values.{at_most}
 use Rattle.replay_calls.specs.Rows.{looked_up}
@@ -30,7 +30,7 @@ module _ {count : ℕ} (word : ℕ) (text : List ℕ) (c : count ≡ at_most wor
   pub text_long : count ≡ length (take count text)
   text_long = sym (length-take-le count text text_fits)
 
-pub looked_up_lem : (entry : Float → Entry) (cmap : List ℕ) (fractions : List Float) {r : List ℕ} → length r ≡ 16
+pub looked_up_lem : (entry : Float → Option ℕ) (cmap : List ℕ) (fractions : List Float) {r : List ℕ} → length r ≡ 16
     → Lanes 0 16 r (λ k. entry_color cmap (entry (get_or fractions k nan))) → r ≡ looked_up entry cmap fractions
 unfolding looked_up
 looked_up_lem entry cmap fractions {r} long l = tabulated 0 16 (λ k. entry_color cmap (entry (get_or fractions k nan))) r long l

@@ -5,18 +5,18 @@ ghost use Rattle.replay_calls.specs.Records.{flags_word, head_words, float_words
 
 use banded::Banded;
 use catgegoric::CategoricNumeric;
-use colormapper::{MappingConfig, OptionalColor};
+use colormapper::MappingConfig;
 use legend::{Legend, LegendKind};
 use replay_rows::{part, place};
 
 // ---- ten words
 
-fn given_word(color: OptionalColor) -> u32
+fn given_word(color: Option<u32>) -> u32
     ensures { (result ≡ given_flag color) × (result ≤ 1) }
 {
     match color {
-        OptionalColor::Given(_) => 1,
-        OptionalColor::Absent => 0,
+        Some(_) => 1,
+        None => 0,
     }
 }
 
@@ -44,8 +44,8 @@ fn head_words(legend: Legend) -> [u32; 10]
     words[0] = kind.number();
     words[1] = config.nodata_color;
     words[2] = flags_word(config);
-    words[3] = colormapper::unwrap_or(low_color, 0);
-    words[4] = colormapper::unwrap_or(high_color, 0);
+    words[3] = low_color.unwrap_or(0);
+    words[4] = high_color.unwrap_or(0);
     words[5] = words::bits(linear.start);
     words[6] = words::bits(linear.end);
     words[7] = words::count_word(banded.count);
@@ -56,30 +56,29 @@ fn head_words(legend: Legend) -> [u32; 10]
 
 // ---- the arrays
 
+#[tactic(auto, using(replay_rows::proofs::Stored::storing), unfolding(crate::specs::Records::float_words))]
 fn float_words(floats: [f32; 64]) -> [u32; 64]
     ensures { result ≡ float_words floats }
 {
     let mut words = [0u32; 64];
-    let mut i: usize = 0;
-    while i < 64 {
+    for i in 0..64 {
         words[i] = words::bits(floats[i]);
-        i += 1;
     }
     words
 }
 
+#[tactic(auto, using(replay_rows::proofs::Stored::storing), unfolding(crate::specs::Records::key_words))]
 fn key_words(keys: [i64; 256]) -> [u32; 256]
     ensures { result ≡ key_words keys }
 {
     let mut words = [0u32; 256];
-    let mut i: usize = 0;
-    while i < 256 {
+    for i in 0..256 {
         words[i] = words::low(keys[i]);
-        i += 1;
     }
     words
 }
 
+#[tactic(auto, unfolding(crate::specs::Records::with_bands))]
 fn with_bands(row: [u32; 1680], banded: Banded) -> [u32; 1680]
     ensures { result ≡ with_bands banded row }
 {
@@ -92,6 +91,7 @@ fn with_bands(row: [u32; 1680], banded: Banded) -> [u32; 1680]
     part::put(with_ends, place::ARRAYS + 128, &colors)
 }
 
+#[tactic(auto, unfolding(crate::specs::Records::with_categories))]
 fn with_categories(row: [u32; 1680], categoric: CategoricNumeric) -> [u32; 1680]
     ensures { result ≡ with_categories categoric row }
 {
@@ -104,6 +104,7 @@ fn with_categories(row: [u32; 1680], categoric: CategoricNumeric) -> [u32; 1680]
     part::put(with_colors, place::ARRAYS + 512, &table)
 }
 
+#[tactic(auto, unfolding(crate::specs::Records::with_record))]
 pub fn with_record(row: [u32; 1680], legend: Legend) -> [u32; 1680]
     ensures { result ≡ with_record legend row }
 {

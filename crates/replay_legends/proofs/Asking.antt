@@ -1,30 +1,29 @@
 -- What a builder is given is what the row asks for: by a palette's ramp or by the list, for each builder. Assumes nothing.
+use Rattle.std.specs.Prelude.{Option, Result, Ok, Err}
+use Rattle.std.specs.Result.{result_and}
 use mathlib.Core.Bool.{Bool, true, false, cond}
 use mathlib.Core.List.{List}
 use mathlib.Core.Path.{◌≡◌, refl, sym, ap, ap₂, ◌∙◌}
-use Prim.Native.Nat.{ℕ, ◌+◌, ◌/◌, ◌%◌, ◌≤◌, ◌<◌}
+use Prim.Native.Nat.{ℕ, ◌/◌, ◌%◌, ◌≤◌, ◌<◌}
 use native.Mathlib.Omega.{arith}
-use borrow.Author.Tests.{ltb-true, lt-ltb, le-ltb, ne_eqb}
+use borrow.Author.Tests.{ltb-true, lt-ltb, le-ltb}
 use lib.Dec.{ltb, eqb}
 use lib.Ieee.{Float}
 use lib.IntN.{ℤ, pos}
 use lib.ListN.{length, get_or, take}
 use lib.Seq.{length-take-le}
+use Rattle.refusal.specs.declared.Refusal.{Refusal}
+use Rattle.refusal.specs.Outcome.{answer_of}
 use Rattle.colormap.specs.Positions.{ramp_colors}
 use Rattle.colormap.specs.Made.{ramp_of_list, ramp_of_preset}
 use Rattle.lists.specs.Padded.{padded}
 use Rattle.lists.specs.Tabulate.{tabulate}
-use Rattle.refusal.specs.declared.Answer.TheVariants.{Done}
-use Rattle.colormapper.specs.declared.OptionalColor.{OptionalColor}
 use Rattle.colormapper.specs.declared.MappingConfig.{MappingConfig}
 use Rattle.linear.specs.Made.{linear_of_ramp, linear_of_list}
-use Rattle.floats.specs.RampIndex.{nought}
-use Rattle.banded_lists.specs.declared.ValueRange.{ValueRange}
 use Rattle.banded_lists.specs.declared.ValueRanges.{ValueRanges}
 use Rattle.banded.specs.EqualBands.{with_equal_bands}
 use Rattle.banded.specs.ManualRanges.{with_manual_ranges}
 use Rattle.catgegoric.specs.Made.{for_values, for_values_from_ramp, for_value_range, for_value_range_from_ramp}
-use Rattle.legend_builders.specs.declared.MadeLegend.{MadeLegend}
 use Rattle.legend_builders.specs.Building.{linear_with_settings, banded_with_settings, categoric_with_settings}
 use Rattle.linear.specs.declared.Linear.{Linear}
 use Rattle.banded_columns.specs.declared.LegendBand.{LegendBand}
@@ -35,9 +34,9 @@ use Rattle.legend.specs.declared.Legend.{Legend}
 use Rattle.legend.specs.Record.{linear_legend, banded_legend, categoric_legend}
 use Rattle.words.specs.Values.{whole_of, at_most}
 use Rattle.replay_rows.specs.Parts.{values_at, words_at}
-use Rattle.replay_legends.specs.Lists.{list_of, row_keys, row_range, row_ranges, row_band}
+use Rattle.replay_legends.specs.Lists.{list_of, row_keys, row_ranges, row_band}
 use Rattle.replay_legends.specs.Asked.{optional_of, row_settings, by_source, ramp_of, cmap_of, start_of, end_of, linear_of, equal_bands_of, manual_ranges_of}
-use Rattle.replay_legends.specs.Asked.{categories_of, category_range_of, bands_given, linear_stored, categories_stored, legend_in, row_legend}
+use Rattle.replay_legends.specs.Asked.{categories_of, category_range_of, bands_given, linear_stored, categories_stored}
 
 -- ---- the first entries of a list of sixteen
 at_most_16 : (word : ℕ) → at_most word 16 ≤ 16
@@ -53,6 +52,11 @@ module _ {A : Type 0} {count : ℕ} (word : ℕ) (list : List A) (c : count ≡ 
 
   pub prefix_long : count ≡ length (take count list)
   prefix_long = sym (length-take-le count list prefix_fits)
+
+-- ---- what a call that makes something answers
+pub answered : {A : Type 0} (made : Result A Refusal) → result_and made (Ok tt) ≡ answer_of made
+answered (Ok x) = refl
+answered (Err why) = refl
 
 -- ---- where the colours come from
 module _ {A : Type 0} (row : List ℕ) (x y : A) where
@@ -148,11 +152,11 @@ module _ (row : List ℕ) (config : MappingConfig) (h : 32 ≤ get_or row 1 0) {
       ap (λ x. categoric_with_settings x config) (m ∙ sym (by_list row _ _ h))
 
 -- ---- settings
-with_colors : (row : List ℕ) → OptionalColor → OptionalColor → MappingConfig
+with_colors : (row : List ℕ) → Option ℕ → Option ℕ → MappingConfig
 with_colors row low high =
     record { nodata_color = get_or row 3 0; out_of_range_low_color = low; out_of_range_high_color = high; zero_is_nodata = eqb (get_or row 4 0 / 4 % 2) 1 }
 
-pub settings_are : (row : List ℕ) {low high : OptionalColor} → low ≡ optional_of (eqb (get_or row 4 0 % 2) 1) (get_or row 5 0) → high
+pub settings_are : (row : List ℕ) {low high : (Option ℕ)} → low ≡ optional_of (eqb (get_or row 4 0 % 2) 1) (get_or row 5 0) → high
     ≡ optional_of (eqb (get_or row 4 0 / 2 % 2) 1) (get_or row 6 0)
     → ◌≡◌ {A =
     MappingConfig} (record {
@@ -165,33 +169,30 @@ unfolding row_settings with_colors
 settings_are row l h = ap₂ (with_colors row) l h
 
 -- ---- records that no builder made
-done : Legend → MadeLegend
-done legend = record { answer = Done; legend = legend }
-
 banded : List LegendBand → ℕ → Banded
 banded bands count = record { bands = bands; count = count }
 
 module _ (row : List ℕ) (config : MappingConfig) {legend : Legend} where
   pub given_is : {bands : List LegendBand} {count : ℕ} → legend ≡ banded_legend (record { bands = bands; count = count }) config → bands
       ≡ padded_bands (tabulate 16 (row_band row)) → count ≡ at_most (get_or row 10 0) 16
-      → ◌≡◌ {A = MadeLegend} (record { answer = Done; legend = legend }) (bands_given row config)
-  unfolding bands_given done banded
-  given_is e b n = ap done (e ∙ ap₂ (λ bands count. banded_legend (banded bands count) config) b n)
+      → legend ≡ bands_given row config
+  unfolding bands_given banded
+  given_is e b n = e ∙ ap₂ (λ bands count. banded_legend (banded bands count) config) b n
 
   pub linear-stored-is : {s e : Float} {cmap : List ℕ} → legend ≡ linear_legend (record { start = s; end = e; cmap = cmap }) config → s ≡ start_of row → e
       ≡ end_of row → cmap ≡ cmap_of row
-      → ◌≡◌ {A = MadeLegend} (record { answer = Done; legend = legend }) (linear_stored row config)
-  unfolding linear_stored done
+      → legend ≡ linear_stored row config
+  unfolding linear_stored
   linear-stored-is {s} {e} {cmap} l p q r =
       let m : ◌≡◌ {A = Linear} (record { start = s; end = e; cmap = cmap }) (record { start = start_of row; end = end_of row; cmap = cmap_of row }) = cc in
-      ap done (l ∙ ap (λ x. linear_legend x config) m)
+      l ∙ ap (λ x. linear_legend x config) m
 
   pub categories-stored-is : {keys : List ℤ} {colors lookup : List ℕ} {count size : ℕ} → legend
       ≡ categoric_legend (record { keys = keys; colors = colors; count = count; lookup = lookup; lookup_count = size }) config
       → keys ≡ padded (pos 0) 256 (values_at whole_of 32 16 row) → colors ≡ padded 0 256 (words_at 16 16 row) → count ≡ at_most (get_or row 10 0) 16 → lookup
       ≡ padded 0 513 (words_at 64 16 row) → size ≡ at_most (get_or row 11 0) 16
-      → ◌≡◌ {A = MadeLegend} (record { answer = Done; legend = legend }) (categories_stored row config)
-  unfolding categories_stored done
+      → legend ≡ categories_stored row config
+  unfolding categories_stored
   categories-stored-is {keys} {colors} {lookup} {count} {size} l k c n t m =
       let x : ◌≡◌ {A = CategoricNumeric} (record { keys = keys; colors = colors; count = count; lookup = lookup; lookup_count = size })
       (record {
@@ -201,40 +202,4 @@ module _ (row : List ℕ) (config : MappingConfig) {legend : Legend} where
         lookup = padded 0 513 (words_at 64 16 row);
         lookup_count = at_most (get_or row 11 0) 16;
       }) = cc in
-      ap done (l ∙ ap (λ y. categoric_legend y config) x)
-
--- ---- by the kind
-module _ (row : List ℕ) where
-  pub kind-is : (kind : ℕ) → get_or row 0 0 ≡ kind → legend_in kind row (row_settings row) ≡ row_legend row
-  unfolding row_legend
-  kind-is kind e = sym (ap (λ (k : ℕ). legend_in k row (row_settings row)) e)
-
-  pub other_kind : (kind : ℕ) → (kind ≡ 4 → ⊥) → (kind ≡ 5 → ⊥) → (kind ≡ 6 → ⊥) → (kind ≡ 7 → ⊥) → (kind ≡ 8 → ⊥) → (kind ≡ 9 → ⊥) → (kind ≡ 10 → ⊥)
-      → (config : MappingConfig) → legend_in kind row config ≡ categories_stored row config
-  other_kind kind a b c d e f g config =
-      rw (ne_eqb kind 4 a, ne_eqb kind 5 b, ne_eqb kind 6 c, ne_eqb kind 7 d, ne_eqb kind 8 e, ne_eqb kind 9 f, ne_eqb kind 10 g)
-
--- ---- ranges and bands
-range_of_lem : Float → Float → ValueRange
-range_of_lem start end = record { start = start; end = end }
-
-band_of_lem : ValueRange → ℕ → LegendBand
-band_of_lem range color = record { start = range.start; end = range.end; color = color }
-
-ranges_of_lem : List ValueRange → ℕ → ValueRanges
-ranges_of_lem ranges count = record { ranges = ranges; count = count }
-
-pub range-is : {s e s' e' : Float} → s ≡ s' → e ≡ e' → ◌≡◌ {A = ValueRange} (record { start = s; end = e }) (record { start = s'; end = e' })
-unfolding range_of_lem
-range-is p q = ap₂ range_of_lem p q
-
-pub band-is : (row : List ℕ) (i : ℕ) {r : ValueRange} → r ≡ row_range row i → ◌≡◌ {A =
-    LegendBand} (record { start = r.start; end = r.end; color = get_or row (16 + i) 0 }) (row_band row i)
-unfolding band_of_lem
-band-is row i e = ap (λ r. band_of_lem r (get_or row (16 + i) 0)) e
-
-pub ranges_are : (row : List ℕ) {ranges : List ValueRange} {count : ℕ} → ranges ≡ padded (record { start = nought; end = nought }) 64
-    (tabulate 16 (row_range row)) → count ≡ at_most (get_or row 10 0) 16
-    → ◌≡◌ {A = ValueRanges} (record { ranges = ranges; count = count }) (row_ranges row)
-unfolding row_ranges ranges_of_lem
-ranges_are row p q = ap₂ ranges_of_lem p q
+      l ∙ ap (λ y. categoric_legend y config) x

@@ -7,24 +7,20 @@ use crate::list;
 use banded::Banded;
 use banded_columns::LegendBand;
 use catgegoric::CategoricNumeric;
-use colormap::{MadeRamp, ProcessedColorMap};
-use colormapper::{MappingConfig, OptionalColor};
+use colormap::ProcessedColorMap;
+use colormapper::MappingConfig;
 use legend::Legend;
-use legend_builders::MadeLegend;
 use linear::Linear;
-use refusal::Answer;
+use refusal::Refusal;
+use replay_rows::kind::RowKind;
 use replay_rows::{part, place};
 
 // ---- settings and colours
 
-fn optional(given: bool, color: u32) -> OptionalColor
+fn optional(given: bool, color: u32) -> Option<u32>
     ensures { result ≡ optional_of given color }
 {
-    if given {
-        OptionalColor::Given(color)
-    } else {
-        OptionalColor::Absent
-    }
+    if given { Some(color) } else { None }
 }
 
 pub fn settings(row: &[u32; 1680]) -> MappingConfig
@@ -40,7 +36,7 @@ pub fn settings(row: &[u32; 1680]) -> MappingConfig
 }
 
 // The ramp of the row's palette or of its list.
-pub fn ramp(row: &[u32; 1680]) -> MadeRamp
+pub fn ramp(row: &[u32; 1680]) -> Result<ProcessedColorMap, Refusal>
     ensures { result ≡ ramp_of row.now }
 {
     if row[place::SOURCE] < place::FROM_LIST {
@@ -51,16 +47,18 @@ pub fn ramp(row: &[u32; 1680]) -> MadeRamp
     colormap::create(&list[..count])
 }
 
+// The ramp of the row's palette; where the palette is refused it is TRANSPARENT throughout.
 fn palette_ramp(row: &[u32; 1680]) -> ProcessedColorMap
     ensures { result.cmap ≡ cmap_of row.now }
 {
-    let made = colormap::create_for_preset(words::wide(row[place::SOURCE]));
-    made.ramp
+    colormap::create_for_preset(words::wide(row[place::SOURCE])).unwrap_or(
+        ProcessedColorMap::default(),
+    )
 }
 
 // ---- by a builder
 
-fn linear(row: &[u32; 1680], config: MappingConfig) -> MadeLegend
+fn linear(row: &[u32; 1680], config: MappingConfig) -> Result<Legend, Refusal>
     ensures { result ≡ linear_of row.now config }
 {
     let start = words::float(row[place::NUMBERS]);
@@ -73,7 +71,7 @@ fn linear(row: &[u32; 1680], config: MappingConfig) -> MadeLegend
     legend_builders::create_linear(&list[..count], start, end, config)
 }
 
-fn equal_bands(row: &[u32; 1680], config: MappingConfig) -> MadeLegend
+fn equal_bands(row: &[u32; 1680], config: MappingConfig) -> Result<Legend, Refusal>
     ensures { result ≡ equal_bands_of row.now config }
 {
     let start = words::float(row[place::NUMBERS]);
@@ -88,7 +86,7 @@ fn equal_bands(row: &[u32; 1680], config: MappingConfig) -> MadeLegend
     legend_builders::create_banded(bands, &list[..count], start, end, config)
 }
 
-fn manual_ranges(row: &[u32; 1680], config: MappingConfig) -> MadeLegend
+fn manual_ranges(row: &[u32; 1680], config: MappingConfig) -> Result<Legend, Refusal>
     ensures { result ≡ manual_ranges_of row.now config }
 {
     let values = list::ranges(row);
@@ -101,7 +99,7 @@ fn manual_ranges(row: &[u32; 1680], config: MappingConfig) -> MadeLegend
     legend_builders::create_banded_manual_ranges(&list[..count], values, config)
 }
 
-fn categories(row: &[u32; 1680], config: MappingConfig) -> MadeLegend
+fn categories(row: &[u32; 1680], config: MappingConfig) -> Result<Legend, Refusal>
     ensures { result ≡ categories_of row.now config }
 {
     let keys = part::keys(row);
@@ -119,7 +117,7 @@ fn categories(row: &[u32; 1680], config: MappingConfig) -> MadeLegend
     legend_builders::create_categoric_for_value_list(&list[..count], &keys[..key_count], config)
 }
 
-fn category_range(row: &[u32; 1680], config: MappingConfig) -> MadeLegend
+fn category_range(row: &[u32; 1680], config: MappingConfig) -> Result<Legend, Refusal>
     ensures { result ≡ category_range_of row.now config }
 {
     let start = words::key(row[place::NUMBERS]);
@@ -138,33 +136,27 @@ fn category_range(row: &[u32; 1680], config: MappingConfig) -> MadeLegend
 // ---- records that no builder made
 
 // Bands as given.
-fn bands_given(row: &[u32; 1680], config: MappingConfig) -> MadeLegend
+fn bands_given(row: &[u32; 1680], config: MappingConfig) -> Legend
     ensures { result ≡ bands_given row.now config }
 {
     let bands = list::bands(row);
     let count = words::at_most(row[place::COUNT], 16);
-    MadeLegend {
-        answer: Answer::Done,
-        legend: Legend::with_banded(Banded { bands, count }, config),
-    }
+    Legend::with_banded(Banded { bands, count }, config)
 }
 
 // The start may be above the end.
-fn linear_stored(row: &[u32; 1680], config: MappingConfig) -> MadeLegend
+fn linear_stored(row: &[u32; 1680], config: MappingConfig) -> Legend
     ensures { result ≡ linear_stored row.now config }
 {
     let ramp = palette_ramp(row);
     let cmap = ramp.cmap;
     let start = words::float(row[place::NUMBERS]);
     let end = words::float(row[place::NUMBERS + 1]);
-    MadeLegend {
-        answer: Answer::Done,
-        legend: Legend::with_linear(Linear { start, end, cmap }, config),
-    }
+    Legend::with_linear(Linear { start, end, cmap }, config)
 }
 
 // Keys in any order, with any table.
-fn categories_stored(row: &[u32; 1680], config: MappingConfig) -> MadeLegend
+fn categories_stored(row: &[u32; 1680], config: MappingConfig) -> Legend
     ensures { result ≡ categories_stored row.now config }
 {
     let keys = list::keys(row);
@@ -177,26 +169,24 @@ fn categories_stored(row: &[u32; 1680], config: MappingConfig) -> MadeLegend
         lookup,
         lookup_count: words::at_most(row[place::TABLE_COUNT], 16),
     };
-    MadeLegend {
-        answer: Answer::Done,
-        legend: Legend::with_categoric(categoric, config),
-    }
+    Legend::with_categoric(categoric, config)
 }
 
 // ---- the legend of a row, by its kind
 
-pub fn made(row: &[u32; 1680]) -> MadeLegend
+#[tactic(auto, unfolding(crate::specs::Asked::row_legend))]
+pub fn made(row: &[u32; 1680]) -> Result<Legend, Refusal>
     ensures { result ≡ row_legend row.now }
 {
     let config = settings(row);
-    match row[0] {
-        4 => linear(row, config),
-        5 => equal_bands(row, config),
-        6 => manual_ranges(row, config),
-        7 => bands_given(row, config),
-        8 => categories(row, config),
-        9 => category_range(row, config),
-        10 => linear_stored(row, config),
-        _ => categories_stored(row, config),
+    match RowKind::from_word(row[place::KIND]) {
+        Some(RowKind::Linear) => linear(row, config),
+        Some(RowKind::EqualBands) => equal_bands(row, config),
+        Some(RowKind::ManualRanges) => manual_ranges(row, config),
+        Some(RowKind::BandsGiven) => Ok(bands_given(row, config)),
+        Some(RowKind::CategoriesByValues) => categories(row, config),
+        Some(RowKind::CategoriesByRange) => category_range(row, config),
+        Some(RowKind::LinearStored) => Ok(linear_stored(row, config)),
+        _ => Ok(categories_stored(row, config)),
     }
 }

@@ -9,7 +9,7 @@ ghost use Rattle.replay_legends.specs.Lists.{row_range, row_ranges, row_band};
 
 use banded_columns::LegendBand;
 use banded_lists::{ValueRange, ValueRanges};
-use replay_rows::place;
+use replay_rows::{part, place};
 
 fn range(row: &[u32; 1680], i: usize) -> ValueRange
     requires { i < 16 }
@@ -21,6 +21,7 @@ fn range(row: &[u32; 1680], i: usize) -> ValueRange
     }
 }
 
+#[tactic(auto, using(replay_rows::proofs::Stored::storing), unfolding(crate::specs::Lists::row_ranges))]
 pub fn ranges(row: &[u32; 1680]) -> ValueRanges
     ensures { result ≡ row_ranges row.now }
 {
@@ -29,10 +30,8 @@ pub fn ranges(row: &[u32; 1680]) -> ValueRanges
         end: 0.0,
     };
     let mut ranges = [none; 64];
-    let mut i: usize = 0;
-    while i < 16 {
+    for i in 0..16 {
         ranges[i] = range(row, i);
-        i += 1;
     }
     ValueRanges {
         ranges,
@@ -52,6 +51,7 @@ fn band(row: &[u32; 1680], i: usize) -> LegendBand
     }
 }
 
+#[tactic(auto, using(replay_rows::proofs::Stored::storing))]
 pub fn bands(row: &[u32; 1680]) -> [LegendBand; 64]
     ensures { result ≡ padded_bands (tabulate 16 (row_band row.now)) }
 {
@@ -61,46 +61,35 @@ pub fn bands(row: &[u32; 1680]) -> [LegendBand; 64]
         color: 0,
     };
     let mut bands = [none; 64];
-    let mut i: usize = 0;
-    while i < 16 {
+    for i in 0..16 {
         bands[i] = band(row, i);
-        i += 1;
     }
     bands
 }
 
+#[tactic(auto, using(replay_rows::proofs::Stored::stored_front))]
 pub fn keys(row: &[u32; 1680]) -> [i64; 256]
     ensures { result ≡ padded (pos 0) 256 (values_at whole_of 32 16 row.now) }
 {
     let mut keys = [0i64; 256];
-    let mut i: usize = 0;
-    while i < 16 {
-        keys[i] = words::key(row[place::NUMBERS + i]);
-        i += 1;
-    }
+    keys[..16].copy_from_slice(&part::keys(row));
     keys
 }
 
+#[tactic(auto, using(replay_rows::proofs::Stored::stored_front))]
 pub fn colors(row: &[u32; 1680]) -> [u32; 256]
     ensures { result ≡ padded 0 256 (words_at 16 16 row.now) }
 {
     let mut colors = [0u32; 256];
-    let mut i: usize = 0;
-    while i < 16 {
-        colors[i] = row[place::COLORS + i];
-        i += 1;
-    }
+    colors[..16].copy_from_slice(&part::words_at(row, place::COLORS));
     colors
 }
 
+#[tactic(auto, using(replay_rows::proofs::Stored::stored_front))]
 pub fn table(row: &[u32; 1680]) -> [u32; 513]
     ensures { result ≡ padded 0 513 (words_at 64 16 row.now) }
 {
     let mut table = [0u32; 513];
-    let mut i: usize = 0;
-    while i < 16 {
-        table[i] = row[place::TABLE + i];
-        i += 1;
-    }
+    table[..16].copy_from_slice(&part::words_at(row, place::TABLE));
     table
 }

@@ -1,4 +1,6 @@
 -- What the calls leave in their buffers is what a row's paintings are. Assumes nothing.
+use Rattle.std.specs.Prelude.{Option}
+use Rattle.refusal.specs.Outcome.{Answer, if_done}
 use mathlib.Core.Bool.{Bool, true, false, cond}
 use mathlib.Core.List.{List, [], ◌∷◌, ◌++◌, map}
 use mathlib.Core.Path.{◌≡◌, refl, sym, ap, ap₂, ◌∙◌}
@@ -11,17 +13,11 @@ use lib.ListN.{length, get_or, take, drop, replicate, length-replicate}
 use lib.Seq.{length-take-le}
 use Rattle.lists.specs.Padded.{padded}
 use Rattle.lists.specs.Tabulate.{tabulate}
-use Rattle.lists.proofs.Tabulated.{length-tabulate}
-use Rattle.refusal.specs.declared.Answer.{Answer}
-use Rattle.refusal.specs.Outcome.{if_done}
-use Rattle.cast.specs.declared.Nodata.{Nodata}
 use Rattle.cast.specs.Samples.{of_i16}
 use Rattle.painting.specs.Painted.{plain_painted, lane_painted, scratch_after}
 use Rattle.painting.specs.Paintings.{Painter, plain_refusal, lane_refusal, PlainPainting, LanePainting}
 use Rattle.legend.specs.declared.Legend.{Legend}
 use Rattle.legend.specs.Painters.{painter}
-use Rattle.legend_view.specs.declared.View.{View}
-use Rattle.legend_view.specs.Borrowed.{borrowed_legend, view_of}
 use Rattle.legend_pixel.specs.Values.{color_for_value}
 use Rattle.words.specs.Values.{short_of, at_most}
 use Rattle.replay_rows.specs.Parts.{values_at}
@@ -78,32 +74,26 @@ converted {A} float value count row e = ap (λ s. map float (take count s)) e �
     each (suc c) zero f = refl
     each (suc c) (suc n) f = ap (λ (r : List Float). float (f zero) ∷ r) (each c n (λ k. f (suc k)))
 
--- ---- a painting of them
-module _ (number count : ℕ) (row : List ℕ) (few : count ≤ 40) {xs : List Float} (e : xs ≡ samples_as number count row) where
-  many : length xs ≡ count
-  many =
-      ap length e
-      ∙ length-take-le count (values_at (sample_of number) 80 40 row) (omega (arith, length-tabulate 40 (λ k. sample_of number (get_or row (80 + k) 0))))
+-- ---- a painting of the n samples xs
+module _ (xs : List Float) {n : ℕ} (m : n ≡ length xs) (few : n ≤ 40) where
+  out_is : take n (zeros 40) ≡ zeros (length xs)
+  out_is = take-blank n 40 few ∙ ap (λ (k : ℕ). zeros k) m
 
-  out_is : take count (zeros 40) ≡ zeros (length xs)
-  out_is = take-blank count 40 few ∙ ap (λ (k : ℕ). zeros k) (sym many)
+  rest_is : drop n (zeros 40) ≡ zeros (40 - length xs)
+  rest_is = drop-blank n 40 few ∙ ap (λ (k : ℕ). zeros (40 - k)) m
 
-  rest_is : drop count (zeros 40) ≡ zeros (40 - length xs)
-  rest_is = drop-blank count 40 few ∙ ap (λ (k : ℕ). zeros (40 - k)) (sym many)
-
-  long : length (take count (zeros 40)) ≡ length xs
+  long : length (take n (zeros 40)) ≡ length xs
   long = ap length out_is ∙ length-replicate (length xs) 0
 
-  pub plain-is : {p : Painter} {answer : Answer} {out' : List ℕ} → PlainPainting p xs (take count (zeros 40)) answer out'
-      → out' ++ drop count (zeros 40) ≡ plain_words p (samples_as number count row)
+  pub plain-is : {p : Painter} {answer : Answer} {out' : List ℕ} → PlainPainting p xs (take n (zeros 40)) answer out'
+      → out' ++ drop n (zeros 40) ≡ plain_words p xs
   unfolding plain_words
   plain-is {p} {answer} {out'} q =
       let a : answer ≡ plain_refusal p.stored (length xs) (length xs) = q.answered ∙ ap (plain_refusal p.stored (length xs)) long in
-      ap₂ (λ (o r : List ℕ). o ++ r) (q.output ∙ ap₂ (λ x o. if_done x (plain_painted p.plain xs) o) a out_is) rest_is ∙ ap (plain_words p) e
+      ap₂ (λ (o r : List ℕ). o ++ r) (q.output ∙ ap₂ (λ x o. if_done x (plain_painted p.plain xs) o) a out_is) rest_is
 
-  pub lanes_are : {p : Painter} {answer : Answer} {out' : List ℕ} {L : ℕ} {scratch' : List ℕ}
-      → LanePainting p L xs (take count (zeros 40)) mark answer out' scratch'
-      → ◌≡◌ {A = LaneWords} (record { words = out' ++ drop count (zeros 40); scratch = scratch' }) (lane_words L p (samples_as number count row))
+  pub lanes_are : {p : Painter} {answer : Answer} {out' : List ℕ} {L : ℕ} {scratch' : List ℕ} → LanePainting p L xs (take n (zeros 40)) mark answer out' scratch'
+      → ◌≡◌ {A = LaneWords} (record { words = out' ++ drop n (zeros 40); scratch = scratch' }) (lane_words L p xs)
   unfolding lane_words lane-words
   lanes_are {p} {answer} {out'} {L} {scratch'} q =
       let a : answer ≡ lane_refusal p.stored L 16 (length xs) (length xs) = q.answered ∙ ap (lane_refusal p.stored L 16 (length xs)) long in
@@ -112,10 +102,9 @@ module _ (number count : ℕ) (row : List ℕ) (few : count ≤ 40) {xs : List F
       ap₂ lane-words
       (ap₂ (λ (w r : List ℕ). w ++ r) o rest_is)
       (q.scratch_after ∙ ap₂ (λ x w. if_done x (cond p.simd (scratch_after L w mark) mark) mark) a o)
-      ∙ ap (lane_words L p) e
 
 -- each by itself
-pub values_are : {words : List ℕ} (l : Legend) (nodata : Nodata) (n : ℕ) (samples : List Float) → n ≤ length samples
+pub values_are : {words : List ℕ} (l : Legend) (nodata : (Option Float)) (n : ℕ) (samples : List Float) → n ≤ length samples
     → words ≡ padded 0 40 (tabulate n (λ k. color_or_number (color_for_value l nodata (get_or samples k nan)))) → words ≡ value_words l nodata (take n samples)
 unfolding value_words tabulate
 values_are l nodata n samples few q = q ∙ ap (padded 0 40) (by_map n samples few)
@@ -126,21 +115,17 @@ values_are l nodata n samples few q = q ∙ ap (padded 0 40) (by_map n samples f
     by_map (suc n) [] few = absurd (omega arith)
     by_map (suc n) (y ∷ ys) few = ap (λ (r : List ℕ). color_or_number (color_for_value l nodata y) ∷ r) (by_map n ys (omega arith))
 
--- ---- all of them, by the legend whose arrays are lent
-abbrev lent : Legend → View → Legend
-lent l x = borrowed_legend x l.linear.cmap l.categoric.keys l.categoric.colors l.categoric.lookup
-
-pub all_are : (l : Legend) (row : List ℕ) {h : View} {count : ℕ} {none : Nodata} {samples : List Float} {values plain : List ℕ} {four eight sixteen : LaneWords}
-    → h ≡ view_of l → count ≡ at_most (get_or row 9 0) 40 → none ≡ nodata_of row → samples ≡ values_at (sample_of (sample_type row)) 80 40 row
-    → values ≡ value_words (lent l h) none (take count samples) → plain ≡ plain_words (painter (lent l h) none) (samples_as (sample_type row) count row)
-    → four ≡ lane_words 4 (painter (lent l h) none) (samples_as (sample_type row) count row)
-    → eight ≡ lane_words 8 (painter (lent l h) none) (samples_as (sample_type row) count row)
-    → sixteen ≡ lane_words 16 (painter (lent l h) none) (samples_as (sample_type row) count row)
+-- ---- all of them, by the legend that is lent
+pub all_are : {k l : Legend} (row : List ℕ) {count : ℕ} {none : (Option Float)} {samples : List Float} {values plain : List ℕ} {four eight sixteen : LaneWords}
+    → k ≡ l → count ≡ at_most (get_or row 9 0) 40 → none ≡ nodata_of row → samples ≡ values_at (sample_of (sample_type row)) 80 40 row
+    → values ≡ value_words k none (take count samples) → plain ≡ plain_words (painter k none) (samples_as (sample_type row) count row)
+    → four ≡ lane_words 4 (painter k none) (samples_as (sample_type row) count row)
+    → eight ≡ lane_words 8 (painter k none) (samples_as (sample_type row) count row)
+    → sixteen ≡ lane_words 16 (painter k none) (samples_as (sample_type row) count row)
     → ◌≡◌ {A = Paintings} (record { values = values; plain = plain; lanes_4 = four; lanes_8 = eight; lanes_16 = sixteen }) (paintings_of l row)
 unfolding paintings_by
-all_are l row {h} {count} {none} {samples} {values} {plain} {four} {eight} {sixteen} eh ec en es v p a b c =
-    let w : values ≡ value_words (lent l h) none (samples_as (sample_type row) count row) = v ∙ ap (λ s. value_words (lent l h) none (take count s)) es in
+all_are {k} row {count} {none} {values = values} {plain} {four} {eight} {sixteen} el ec en es v p a b c =
+    let w : values ≡ value_words k none (samples_as (sample_type row) count row) = v ∙ ap (λ s. value_words k none (take count s)) es in
     let m : ◌≡◌ {A = Paintings} (record { values = values; plain = plain; lanes_4 = four; lanes_8 = eight; lanes_16 = sixteen })
-    (paintings_by (lent l h) none (samples_as (sample_type row) count row)) =
-    (λ j. record { values = w j; plain = p j; lanes_4 = a j; lanes_8 = b j; lanes_16 = c j }) in
-    m ∙ (λ j. paintings_by (lent l (eh j)) (en j) (samples_as (sample_type row) (ec j) row))
+    (paintings_by k none (samples_as (sample_type row) count row)) = (λ j. record { values = w j; plain = p j; lanes_4 = a j; lanes_8 = b j; lanes_16 = c j }) in
+    m ∙ (λ j. paintings_by (el j) (en j) (samples_as (sample_type row) (ec j) row))

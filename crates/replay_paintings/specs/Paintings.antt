@@ -1,15 +1,13 @@
 -- Every painting of some samples by a legend, and its words in their places. Definitions only.
-use Rattle.std.specs.Prelude.{cond, List, map, ◌++◌, ℕ, ◌-◌, Float, length, replicate}
+use Rattle.std.specs.Prelude.{Option, Result, Ok, Err, cond, List, map, ◌++◌, ℕ, ◌-◌, Float, length, replicate}
+use Rattle.refusal.specs.declared.Refusal.{Refusal}
 use Rattle.lists.specs.Padded.{padded}
 use Rattle.refusal.specs.Outcome.{if_done}
 use Rattle.refusal.specs.Table.{number_of}
-use Rattle.cast.specs.declared.Nodata.{Nodata}
 use Rattle.painting.specs.Painted.{plain_painted, lane_painted, scratch_after}
 use Rattle.painting.specs.Paintings.{Painter, plain_refusal, lane_refusal}
 use Rattle.legend.specs.declared.Legend.{Legend}
 use Rattle.legend.specs.Painters.{painter}
-use Rattle.legend_pixel.specs.declared.PixelColor.{PixelColor}
-use Rattle.legend_pixel.specs.declared.PixelColor.TheVariants.{Color, Refused}
 use Rattle.legend_pixel.specs.Values.{color_for_value}
 use Rattle.replay_rows.specs.Parts.{put_at}
 use Rattle.replay_paintings.specs.declared.LaneWords.{LaneWords}
@@ -17,12 +15,12 @@ use Rattle.replay_paintings.specs.declared.Paintings.{Paintings}
 use Rattle.replay_paintings.specs.Samples.{nodata_of, samples_of}
 
 -- ---- the colours of at most forty samples, in forty words
-abbrev pub color_or_number : PixelColor → ℕ
-color_or_number (Color word) = word
-color_or_number (Refused why) = number_of why
+abbrev pub color_or_number : Result ℕ Refusal → ℕ
+color_or_number (Ok word) = word
+color_or_number (Err why) = number_of why
 
 -- each by itself
-unfoldable pub value_words : Legend → Nodata → List Float → List ℕ
+unfoldable pub value_words : Legend → Option Float → List Float → List ℕ
 value_words legend nodata xs = padded 0 40 (map (λ v. color_or_number (color_for_value legend nodata v)) xs)
 
 -- an output of zeros is lent
@@ -53,7 +51,7 @@ lane_words L p xs =
     }
 
 -- ---- all of them
-unfoldable pub paintings_by : Legend → Nodata → List Float → Paintings
+unfoldable pub paintings_by : Legend → Option Float → List Float → Paintings
 paintings_by legend nodata xs =
     let p = painter legend nodata in
     record {

@@ -1,7 +1,5 @@
 -- The samples of a row and its nodata value, as f32. Definitions only.
-use Rattle.std.specs.Prelude.{Bool, cond, List, ℕ, ◌/◌, ◌%◌, eqb, Float, get_or, take}
-use Rattle.cast.specs.declared.Nodata.{Nodata}
-use Rattle.cast.specs.declared.Nodata.TheVariants.{Value, Absent}
+use Rattle.std.specs.Prelude.{Option, Some, None, Bool, cond, List, ℕ, ◌/◌, ◌%◌, eqb, Float, get_or, take}
 use Rattle.cast.specs.Samples.{of_u8, of_i16}
 use Rattle.words.specs.Values.{float_of, short_of, at_most}
 use Rattle.replay_rows.specs.Parts.{values_at}
@@ -17,8 +15,8 @@ sample_type row = get_or row 8 0
 unfoldable pub sample_of : (number word : ℕ) → Float
 sample_of number word = cond (eqb number 0) (float_of word) (cond (eqb number 1) (of_u8 (word % 256)) (of_i16 (short_of word)))
 
-abbrev pub nodata_of : (row : List ℕ) → Nodata
-nodata_of row = cond (is_given row) (Value (sample_of (sample_type row) (get_or row 7 0))) Absent
+abbrev pub nodata_of : (row : List ℕ) → Option Float
+nodata_of row = cond (is_given row) (Some (sample_of (sample_type row) (get_or row 7 0))) None
 
 -- the first of the forty samples, by that number; those of a row are as many as it counts
 abbrev pub samples_as : (number count : ℕ) → (row : List ℕ) → List Float

@@ -2,9 +2,7 @@
 #![tactic(auto)]
 
 pub mod paint;
-mod raster_f32;
-mod raster_i16;
-mod raster_u8;
+mod raster;
 mod sample;
 
 // A painting in lanes: the words, and scratch after it, which held 5C5C5C5C in each word.

@@ -5,112 +5,82 @@ ghost use Rattle.legend_view.specs.Borrowed.{borrowed_legend};
 ghost use Rattle.replay_paintings.specs.Samples.{sample_type, samples_as};
 ghost use Rattle.replay_paintings.specs.Paintings.{color_or_number, value_words, plain_words, lane_words, with_lanes, with_paintings, paintings_of};
 
-use crate::{LaneWords, Paintings, raster_f32, raster_i16, raster_u8, sample};
-use cast::Nodata;
+use crate::{LaneWords, Paintings, raster, sample};
 use legend::Legend;
-use legend_pixel::PixelColor;
 use legend_view::View;
+use refusal::Refusal;
 use replay_rows::{part, place};
 
 // A sample's colour, or the number of the refusal.
-pub fn color_or_number(color: PixelColor) -> u32
+pub fn color_or_number(color: Result<u32, Refusal>) -> u32
     ensures { result ≡ color_or_number color }
 {
     match color {
-        PixelColor::Color(word) => word,
-        PixelColor::Refused(why) => why.number(),
+        Ok(word) => word,
+        Err(why) => why.number(),
     }
 }
 
 // Each by itself.
-fn values(
-    view: View,
-    cmap: &[u32; 256],
-    keys: &[i64; 256],
-    colors: &[u32; 256],
-    lookup: &[u32; 513],
-    samples: [f32; 40],
-    count: usize,
-    nodata: Nodata,
-) -> [u32; 40]
+#[tactic(auto, using(replay_rows::proofs::Stored::storing))]
+fn values(view: View<'_>, samples: [f32; 40], count: usize, nodata: Option<f32>) -> [u32; 40]
     requires { count ≤ 40 }
-    ensures { result ≡ value_words (borrowed_legend view cmap.now keys.now colors.now lookup.now) nodata
-        (take count samples) }
+    ensures { result ≡ value_words (borrowed_legend view.entry) nodata (take count samples) }
 {
     let mut words = [0u32; 40];
-    let mut i: usize = 0;
-    while i < count {
-        let color = legend_pixel::color_for_value(
-            view, cmap, keys, colors, lookup, samples[i], nodata,
-        );
+    for i in 0..count {
+        let color = legend_pixel::color_for_value(view, samples[i], nodata);
         words[i] = color_or_number(color);
-        i += 1;
     }
     words
 }
 
 // By the painter of their type, plainly and in lanes.
-fn plain(
-    view: View,
-    cmap: &[u32; 256],
-    keys: &[i64; 256],
-    colors: &[u32; 256],
-    lookup: &[u32; 513],
-    row: &[u32; 1680],
-    count: usize,
-    nodata: Nodata,
-) -> [u32; 40]
+fn plain(view: View<'_>, row: &[u32; 1680], count: usize, nodata: Option<f32>) -> [u32; 40]
     requires { count ≤ 40 }
-    ensures { result ≡ plain_words (painter (borrowed_legend view cmap.now keys.now colors.now lookup.now) nodata)
-        (samples_as (sample_type row.now) count row.now) }
+    ensures { result ≡ plain_words (painter (borrowed_legend view.entry) nodata) (samples_as (sample_type row.now) count row.now) }
 {
     match row[place::SAMPLE_TYPE] {
-        0 => raster_f32::plain(view, cmap, keys, colors, lookup, row, count, nodata),
-        1 => raster_u8::plain(view, cmap, keys, colors, lookup, row, count, nodata),
-        _ => raster_i16::plain(view, cmap, keys, colors, lookup, row, count, nodata),
+        0 => raster::plain(view, &part::floats(row)[..count], nodata),
+        1 => raster::plain(view, &part::bytes(row, place::SAMPLES)[..count], nodata),
+        _ => raster::plain(view, &part::shorts(row)[..count], nodata),
     }
 }
 
 fn lanes(
-    view: View,
-    cmap: &[u32; 256],
-    keys: &[i64; 256],
-    colors: &[u32; 256],
-    lookup: &[u32; 513],
+    view: View<'_>,
     lanes: usize,
     row: &[u32; 1680],
     count: usize,
-    nodata: Nodata,
+    nodata: Option<f32>,
 ) -> LaneWords
     requires { count ≤ 40 }
-    ensures { result ≡ lane_words lanes (painter (borrowed_legend view cmap.now keys.now colors.now lookup.now)
-        nodata) (samples_as (sample_type row.now) count row.now) }
+    ensures { result ≡ lane_words lanes (painter (borrowed_legend view.entry) nodata) (samples_as (sample_type row.now) count row.now) }
 {
     match row[place::SAMPLE_TYPE] {
-        0 => raster_f32::lanes(view, cmap, keys, colors, lookup, lanes, row, count, nodata),
-        1 => raster_u8::lanes(view, cmap, keys, colors, lookup, lanes, row, count, nodata),
-        _ => raster_i16::lanes(view, cmap, keys, colors, lookup, lanes, row, count, nodata),
+        0 => raster::lanes(view, lanes, &part::floats(row)[..count], nodata),
+        1 => raster::lanes(
+            view,
+            lanes,
+            &part::bytes(row, place::SAMPLES)[..count],
+            nodata,
+        ),
+        _ => raster::lanes(view, lanes, &part::shorts(row)[..count], nodata),
     }
 }
 
-pub fn painted(legend: Legend, row: &[u32; 1680]) -> Paintings
-    ensures { result ≡ paintings_of legend row.now }
+pub fn painted(legend: &Legend, row: &[u32; 1680]) -> Paintings
+    ensures { result ≡ paintings_of legend.now row.now }
 {
-    let linear = legend.linear;
-    let categoric = legend.categoric;
-    let cmap = linear.cmap;
-    let keys = categoric.keys;
-    let colors = categoric.colors;
-    let lookup = categoric.lookup;
     let view = legend_view::view_of(legend);
     let samples = sample::floats(row);
     let count = words::at_most(row[place::SAMPLE_COUNT], 40);
     let none = sample::nodata(row);
-    let values = values(view, &cmap, &keys, &colors, &lookup, samples, count, none);
-    let plain = plain(view, &cmap, &keys, &colors, &lookup, row, count, none);
-    let lanes_4 = lanes(view, &cmap, &keys, &colors, &lookup, 4, row, count, none);
-    let lanes_8 = lanes(view, &cmap, &keys, &colors, &lookup, 8, row, count, none);
-    let lanes_16 = lanes(view, &cmap, &keys, &colors, &lookup, 16, row, count, none);
+    let values = values(view, samples, count, none);
+    let plain = plain(view, row, count, none);
+    let lanes_4 = lanes(view, 4, row, count, none);
+    let lanes_8 = lanes(view, 8, row, count, none);
+    let lanes_16 = lanes(view, 16, row, count, none);
     Paintings {
         values,
         plain,

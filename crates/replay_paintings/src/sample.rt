@@ -3,7 +3,6 @@ ghost use Rattle.std.specs.Prelude.{◌≡◌};
 ghost use Rattle.replay_rows.specs.Parts.{values_at};
 ghost use Rattle.replay_paintings.specs.Samples.{is_given, sample_of, sample_type, nodata_of};
 
-use cast::Nodata;
 use replay_rows::place;
 
 // Whether a nodata value is given.
@@ -24,25 +23,24 @@ fn float_of(number: u32, word: u32) -> f32
     }
 }
 
-pub fn nodata(row: &[u32; 1680]) -> Nodata
+pub fn nodata(row: &[u32; 1680]) -> Option<f32>
     ensures { result ≡ nodata_of row.now }
 {
     if is_given(row) {
-        Nodata::Value(float_of(row[place::SAMPLE_TYPE], row[place::NODATA]))
+        Some(float_of(row[place::SAMPLE_TYPE], row[place::NODATA]))
     } else {
-        Nodata::Absent
+        None
     }
 }
 
+#[tactic(auto, using(replay_rows::proofs::Stored::storing))]
 pub fn floats(row: &[u32; 1680]) -> [f32; 40]
     ensures { result ≡ values_at (sample_of (sample_type row.now)) 80 40 row.now }
 {
     let number = row[place::SAMPLE_TYPE];
     let mut floats = [0.0f32; 40];
-    let mut i: usize = 0;
-    while i < 40 {
+    for i in 0..40 {
         floats[i] = float_of(number, row[place::SAMPLES + i]);
-        i += 1;
     }
     floats
 }

@@ -5,6 +5,9 @@ pub const WORDS: usize = 1680;
 
 // ---- what a row asks
 
+// The number of its kind (`crate::kind`).
+pub const KIND: usize = 0;
+
 // Where the colours come from: a palette's number, or 32 for the list; the list's length.
 pub const SOURCE: usize = 1;
 

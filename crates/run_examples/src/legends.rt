@@ -1,12 +1,11 @@
 // The legends of the examples, and what a sample is painted by one of them.
 use crate::say;
 use banded_lists::{ValueRange, ValueRanges};
-use cast::Nodata;
 use color::Color;
 use colormap::ProcessedColorMap;
-use colormapper::{MappingConfig, OptionalColor};
-use legend_builders::MadeLegend;
-use refusal::Answer;
+use colormapper::MappingConfig;
+use legend::Legend;
+use refusal::Refusal;
 use std::io;
 
 // Colours that stand for themselves: those of A and B, and of the settings.
@@ -23,8 +22,8 @@ const HIGH: u32 = 105;
 fn settings(zero_is_nodata: bool) -> MappingConfig {
     MappingConfig {
         nodata_color: NODATA,
-        out_of_range_low_color: OptionalColor::Given(LOW),
-        out_of_range_high_color: OptionalColor::Given(HIGH),
+        out_of_range_low_color: Some(LOW),
+        out_of_range_high_color: Some(HIGH),
         zero_is_nodata,
     }
 }
@@ -32,10 +31,8 @@ fn settings(zero_is_nodata: bool) -> MappingConfig {
 // G, the ramp whose entry i is i, i, i, 255.
 pub fn gray() -> [u32; 256] {
     let mut ramp = [0u32; 256];
-    let mut i: usize = 0;
-    while i < 256 {
-        ramp[i] = gray_word(i as u8);
-        i += 1;
+    for level in 0..=255u8 {
+        ramp[level as usize] = gray_word(level);
     }
     ramp
 }
@@ -46,7 +43,7 @@ fn gray_word(level: u8) -> u32 {
 
 // ---- the legends
 
-pub fn gray_legend(start: f32, end: f32, zero_is_nodata: bool) -> MadeLegend {
+pub fn gray_legend(start: f32, end: f32, zero_is_nodata: bool) -> Result<Legend, Refusal> {
     let cmap = gray();
     legend_builders::create_linear_from_ramp(
         ProcessedColorMap { cmap },
@@ -57,7 +54,7 @@ pub fn gray_legend(start: f32, end: f32, zero_is_nodata: bool) -> MadeLegend {
 }
 
 // Two bands with the colours A and B.
-pub fn two_bands(start: f32, end: f32, next_start: f32, next_end: f32) -> MadeLegend {
+pub fn two_bands(start: f32, end: f32, next_start: f32, next_end: f32) -> Result<Legend, Refusal> {
     let mut ranges = [ValueRange { start, end }; 64];
     ranges[1] = ValueRange {
         start: next_start,
@@ -68,88 +65,79 @@ pub fn two_bands(start: f32, end: f32, next_start: f32, next_end: f32) -> MadeLe
 }
 
 // Eleven equal bands from 0 to 1 with colours of G.
-pub fn eleven_bands() -> MadeLegend {
+pub fn eleven_bands() -> Result<Legend, Refusal> {
     let ramp = gray();
     legend_builders::create_banded_from_ramp(11, &ramp, 0.0, 1.0, settings(false))
 }
 
 // Two keys with the colours A and B.
-pub fn two_keys(first: i64, second: i64) -> MadeLegend {
+pub fn two_keys(first: i64, second: i64) -> Result<Legend, Refusal> {
     legend_builders::create_categoric_for_value_list(&[A, B], &[first, second], settings(false))
 }
 
 // ---- painting
 
 // Writes the word of a sample: a raster of one, painted plainly.
-pub fn painted(rt: &impl Print, made: MadeLegend, value: f32) -> io::Result<()> {
-    let answer = made.answer;
-    if let Answer::Refused(why) = answer {
-        return say::refused(rt, why);
-    }
-    let legend = made.legend;
+pub fn painted(rt: &impl Print, made: Result<Legend, Refusal>, value: f32) -> io::Result<()> {
+    told(rt, word_of(made, value))
+}
+
+fn word_of(made: Result<Legend, Refusal>, value: f32) -> Result<u32, Refusal> {
+    let legend = made?;
     let samples = [value; 1];
     let mut words = [0u32; 1];
-    let done = legend_apply::apply_to_data_scalar(legend, &samples, Nodata::Absent, &mut words);
-    told(rt, done, words[0])
+    legend_apply::apply_to_data_scalar(&legend, &samples, None, &mut words)?;
+    Ok(words[0])
 }
 
 // Writes the word of a sample in a chunk of four lanes, the second of which holds another sample.
 pub fn painted_in_lanes(
     rt: &impl Print,
-    made: MadeLegend,
+    made: Result<Legend, Refusal>,
     value: f32,
     second: f32,
 ) -> io::Result<()> {
-    let answer = made.answer;
-    if let Answer::Refused(why) = answer {
-        return say::refused(rt, why);
-    }
-    let legend = made.legend;
+    told(rt, word_in_lanes(made, value, second))
+}
+
+fn word_in_lanes(made: Result<Legend, Refusal>, value: f32, second: f32) -> Result<u32, Refusal> {
+    let legend = made?;
     let samples = [value, second, value, value];
     let mut words = [0u32; 4];
     let mut scratch = [0u32; 16];
-    let done = legend_apply::apply_to_data_kernel(
-        legend,
-        4,
-        &samples,
-        Nodata::Absent,
-        &mut words,
-        &mut scratch,
-    );
-    told(rt, done, words[0])
+    legend_apply::apply_to_data_kernel(&legend, 4, &samples, None, &mut words, &mut scratch)?;
+    Ok(words[0])
 }
 
-pub fn painted_both_ways(rt: &impl Print, made: MadeLegend, value: f32) -> io::Result<()> {
+pub fn painted_both_ways(
+    rt: &impl Print,
+    made: Result<Legend, Refusal>,
+    value: f32,
+) -> io::Result<()> {
     painted(rt, made, value)?;
     painted_in_lanes(rt, made, value, value)
 }
 
 // Writes the word, or why there is none.
-fn told(rt: &impl Print, answer: Answer, word: u32) -> io::Result<()> {
-    match answer {
-        Answer::Refused(why) => say::refused(rt, why),
-        Answer::Done => say::word(rt, word),
+fn told(rt: &impl Print, word: Result<u32, Refusal>) -> io::Result<()> {
+    match word {
+        Ok(word) => say::word(rt, word),
+        Err(why) => say::refused(rt, why),
     }
 }
 
 // ---- a categoric record's counts
 
-pub fn key_count(rt: &impl Print, made: MadeLegend) -> io::Result<()> {
-    let answer = made.answer;
-    if let Answer::Refused(why) = answer {
-        return say::refused(rt, why);
+pub fn key_count(rt: &impl Print, made: Result<Legend, Refusal>) -> io::Result<()> {
+    match made {
+        Ok(legend) => say::count(rt, legend.categoric.count),
+        Err(why) => say::refused(rt, why),
     }
-    let legend = made.legend;
-    let categoric = legend.categoric;
-    say::count(rt, categoric.count)
 }
 
-pub fn table_words(rt: &impl Print, made: MadeLegend) -> io::Result<()> {
-    let answer = made.answer;
-    if let Answer::Refused(why) = answer {
-        return say::refused(rt, why);
+pub fn table_words(rt: &impl Print, made: Result<Legend, Refusal>) -> io::Result<()> {
+    match made {
+        Ok(legend) => say::count(rt, legend.categoric.lookup_count),
+        Err(why) => say::refused(rt, why),
     }
-    let legend = made.legend;
-    let categoric = legend.categoric;
-    say::count(rt, categoric.lookup_count)
 }

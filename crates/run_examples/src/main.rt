@@ -5,7 +5,7 @@
 mod legends;
 mod say;
 
-use color::{Color, HexColor};
+use color::Color;
 use std::io;
 
 // 1: G at 0.5. 2: at the one fraction where lanes differ. 3: at 1 and at a NaN.
@@ -95,8 +95,8 @@ fn categoric(rt: &impl Print) -> io::Result<()> {
 fn others(rt: &impl Print) -> io::Result<()> {
     say::number(rt, 12)?;
     match Color::from_hex_string(b"#+F0000") {
-        HexColor::Made(color) => say::word(rt, color.to_bits())?,
-        HexColor::Refused(why) => say::refused(rt, why)?,
+        Ok(color) => say::word(rt, color.to_bits())?,
+        Err(why) => say::refused(rt, why)?,
     }
     legends::painted(rt, legends::gray_legend(0.0, 255.0, true), -0.0)?;
     say::line_end(rt)

@@ -7,10 +7,12 @@ mod tell;
 ghost use Rattle.std.specs.Prelude.{◌≡◌, slice_index};
 ghost use Rattle.run_replay.specs.Tally.{tallied, row_kind, differing};
 
-use replay_rows::part;
+use replay_rows::kind::RowKind;
+use replay_rows::{part, place};
 use std::io::{ErrorKind, Read};
 use std::rt::Files;
 use std::{fs, io};
+use tally::Tally;
 
 // Fills a buffer, and answers whether the file went on for so long.
 fn read_full(file: &mut impl Read, buffer: &mut [u8]) -> io::Result<bool> {
@@ -29,25 +31,20 @@ fn read_word(file: &mut impl Read) -> io::Result<u32> {
 }
 
 // Compares a row with what we make of it. It is counted also where what is told of it cannot be printed.
-fn compare(
-    rt: &impl Print,
-    number: u64,
-    row: &[u32; 1680],
-    rows: &mut [u64; 13],
-    differ: &mut [u64; 13],
-) -> io::Result<()>
-    ensures { (rows.new ≡ tallied (row_kind (slice_index row.now 0)) rows.old)
-        × (differ.new ≡ differing row.now differ.old) }
+#[tactic(auto, unfolding(crate::specs::Tally::differing))]
+fn compare(rt: &impl Print, number: u64, row: &[u32; 1680], tally: &mut Tally) -> io::Result<()>
+    ensures { (tally.new.rows ≡ tallied (row_kind (slice_index row.now 0)) tally.old.rows)
+        × (tally.new.differ ≡ differing row.now tally.old.differ) }
 {
     let at = replay_worked::difference(row);
-    let kind = tally::kind_of(row[0]);
+    let kind = RowKind::from_word(row[place::KIND]);
     let same = tally::is_same(kind, at);
     let told = if same {
         Ok(())
     } else {
         tell::difference(rt, number, kind, at)
     };
-    tally::note(kind, same, rows, differ);
+    tally.note(kind, same);
     told
 }
 
@@ -57,22 +54,21 @@ fn replay_row(
     rt: &impl Print,
     file: &mut impl Read,
     number: u64,
-    rows: &mut [u64; 13],
-    differ: &mut [u64; 13],
+    tally: &mut Tally,
 ) -> io::Result<bool> {
     let count = words::wide(read_word(file)?);
     let mut bytes = [0u8; 6720];
     if count > 1680 {
-        tally::note(12, false, rows, differ);
+        tally.note(None, false);
         return Ok(false);
     }
     let size = 4 * count;
     if !read_full(file, &mut bytes[..size])? {
-        tally::note(12, false, rows, differ);
+        tally.note(None, false);
         return Ok(false);
     }
     let row = part::words_of(&bytes);
-    compare(rt, number, &row, rows, differ)?;
+    compare(rt, number, &row, tally)?;
     Ok(true)
 }
 
@@ -80,21 +76,21 @@ fn replay_rows(
     rt: &impl Print,
     file: &mut impl Read,
     count: u32,
-    rows: &mut [u64; 13],
-    differ: &mut [u64; 13],
+    tally: &mut Tally,
 ) -> io::Result<()> {
-    let mut i: u32 = 0;
-    while i < count && replay_row(rt, file, i as u64, rows, differ)? {
-        i += 1;
+    for number in 0..count {
+        if !replay_row(rt, file, number as u64, tally)? {
+            break;
+        }
     }
     Ok(())
 }
 
 // A file that goes on after its last row has a malformed one.
-fn end(file: &mut impl Read, rows: &mut [u64; 13], differ: &mut [u64; 13]) -> io::Result<()> {
+fn end(file: &mut impl Read, tally: &mut Tally) -> io::Result<()> {
     let mut bytes = [0u8; 1];
     if read_full(file, &mut bytes)? {
-        tally::note(12, false, rows, differ);
+        tally.note(None, false);
     }
     Ok(())
 }
@@ -106,13 +102,12 @@ fn replay<R: Files + Print + Eprint>(rt: &R, path: &str) -> io::Result<()> {
         Ok(file) => file,
         Err(error) => return tell::unopened(rt, path, error),
     };
-    let mut rows = [0u64; 13];
-    let mut differ = [0u64; 13];
+    let mut tally = Tally::new();
     let count = read_word(&mut file)?;
-    replay_rows(rt, &mut file, count, &mut rows, &mut differ)?;
-    end(&mut file, &mut rows, &mut differ)?;
-    tell::kinds(rt, &rows, &differ)?;
-    tell::counts(rt, tally::sum(&rows), tally::sum(&differ))
+    replay_rows(rt, &mut file, count, &mut tally)?;
+    end(&mut file, &mut tally)?;
+    tell::kinds(rt, &tally)?;
+    tell::counts(rt, tally::sum(&tally.rows), tally::sum(&tally.differ))
 }
 
 fn main(rt: HostRuntime) -> io::Result<()> {

@@ -1,41 +1,63 @@
 // How many rows there are of each kind, and how many of them differ.
 ghost use Rattle.std.specs.Prelude.{◌≡◌, ◌<◌, if◌then◌else◌};
-ghost use Rattle.run_replay.specs.Tally.{tallied, row_kind, is_same, sum_to};
+ghost use Rattle.run_replay.specs.Tally.{place_of, is_same, tallied, sum_to};
 
-// The kind of a row, and 12 for one that is malformed.
-pub fn kind_of(word: u32) -> usize
-    ensures { (result ≡ row_kind word) × (result < 13) }
-{
-    if word < 12 { word as usize } else { 12 }
+use replay_rows::kind::RowKind;
+
+// A count in the place of each kind.
+#[derive(Clone, Copy)]
+pub struct Tally {
+    pub rows: [u64; 13],
+    pub differ: [u64; 13],
 }
 
-// Whether a row is of a kind and differs nowhere.
-pub fn is_same(kind: usize, at: usize) -> bool
-    ensures { result ≡ is_same kind at }
+// The place of a kind: its number, and 12 for malformed rows, which have none.
+pub fn place_of(kind: Option<RowKind>) -> usize
+    ensures { (result ≡ place_of kind) × (result < 13) }
 {
-    (kind < 12) & (at == 1680)
-}
-
-// One more row of a kind.
-pub fn note(kind: usize, same: bool, rows: &mut [u64; 13], differ: &mut [u64; 13])
-    requires { kind < 13 }
-    ensures { (rows.new ≡ tallied kind rows.old)
-        × (differ.new ≡ (if same then differ.old else tallied kind differ.old)) }
-{
-    rows[kind] = std::num::wrapping_add_u64(rows[kind], 1);
-    if !same {
-        differ[kind] = std::num::wrapping_add_u64(differ[kind], 1);
+    match kind {
+        Some(kind) => kind.number(),
+        None => 12,
     }
 }
 
+// Whether a row is of a kind and differs nowhere.
+pub fn is_same(kind: Option<RowKind>, at: usize) -> bool
+    ensures { result ≡ is_same kind at }
+{
+    kind.is_some() && at == 1680
+}
+
+impl Tally {
+    // Of no rows.
+    pub fn new() -> Tally {
+        Tally {
+            rows: [0; 13],
+            differ: [0; 13],
+        }
+    }
+
+    // One more row of a kind.
+    #[tactic(auto, unfolding(crate::specs::Tally::tallied))]
+    pub fn note(&mut self, kind: Option<RowKind>, same: bool)
+        ensures rows { self.new.rows ≡ tallied (place_of kind) self.old.rows }
+        ensures differ { self.new.differ ≡ (if same then self.old.differ else tallied (place_of kind) self.old.differ) }
+    {
+        let at = place_of(kind);
+        self.rows[at] = self.rows[at].wrapping_add(1);
+        if !same {
+            self.differ[at] = self.differ[at].wrapping_add(1);
+        }
+    }
+}
+
+#[tactic(auto, unfolding(crate::specs::Tally::sum_to))]
 pub fn sum(numbers: &[u64; 13]) -> u64
     ensures { result ≡ sum_to 13 numbers.now }
 {
     let mut total: u64 = 0;
-    let mut i: usize = 0;
-    while i < 13 {
-        total = std::num::wrapping_add_u64(total, numbers[i]);
-        i += 1;
+    for number in numbers {
+        total = total.wrapping_add(*number);
     }
     total
 }

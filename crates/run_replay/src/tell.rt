@@ -1,4 +1,6 @@
 // What the program prints.
+use crate::tally::{self, Tally};
+use replay_rows::kind::RowKind;
 use std::io;
 
 // A file's name.
@@ -11,27 +13,21 @@ pub fn unopened(rt: &impl Eprint, path: &str, error: io::Error) -> io::Result<()
     eprintln!(rt; "{path}: {error}")
 }
 
-// A kind's name.
-fn name(rt: &impl Print, kind: usize) -> io::Result<()> {
-    rt.print(match kind {
-        0 => "palettes: ",
-        1 => "hex texts: ",
-        2 => "ramp lookups: ",
-        3 => "whole numbers: ",
-        4 => "linear: ",
-        5 => "equal bands: ",
-        6 => "manual ranges: ",
-        7 => "bands as given: ",
-        8 => "categories by values: ",
-        9 => "categories by range: ",
-        10 => "linear as stored: ",
-        11 => "categories as stored: ",
-        _ => "malformed: ",
-    })
+// A kind's name. Malformed rows have no kind.
+fn name(rt: &impl Print, kind: Option<RowKind>) -> io::Result<()> {
+    match kind {
+        Some(kind) => print!(rt; "{kind}: "),
+        None => print!(rt; "malformed: "),
+    }
 }
 
 // A row that differs, with the place of its first word that does.
-pub fn difference(rt: &impl Print, number: u64, kind: usize, at: usize) -> io::Result<()> {
+pub fn difference(
+    rt: &impl Print,
+    number: u64,
+    kind: Option<RowKind>,
+    at: usize,
+) -> io::Result<()> {
     name(rt, kind)?;
     println!(rt; "row {number} differs at word {at}")
 }
@@ -41,13 +37,17 @@ pub fn counts(rt: &impl Print, rows: u64, differ: u64) -> io::Result<()> {
     println!(rt; "{rows} rows, {differ} differ")
 }
 
+// The same of a kind.
+fn counts_of(rt: &impl Print, kind: Option<RowKind>, tally: &Tally) -> io::Result<()> {
+    let place = tally::place_of(kind);
+    name(rt, kind)?;
+    counts(rt, tally.rows[place], tally.differ[place])
+}
+
 // A line for each kind.
-pub fn kinds(rt: &impl Print, rows: &[u64; 13], differ: &[u64; 13]) -> io::Result<()> {
-    let mut kind: usize = 0;
-    while kind < 13 {
-        name(rt, kind)?;
-        counts(rt, rows[kind], differ[kind])?;
-        kind += 1;
+pub fn kinds(rt: &impl Print, tally: &Tally) -> io::Result<()> {
+    for kind in RowKind::ALL {
+        counts_of(rt, Some(kind), tally)?;
     }
-    Ok(())
+    counts_of(rt, None, tally)
 }

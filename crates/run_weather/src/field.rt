@@ -1,5 +1,4 @@
 // The two fields of samples, 256 wide and 160 high: temperature with a patch of no data, and rain with dry gaps.
-use cast::Nodata;
 
 #[derive(Clone, Copy)]
 pub enum Field {
@@ -10,20 +9,18 @@ pub enum Field {
 // What stands for no data in the temperature field. In the rain field it is 0, by the legend's settings.
 const NO_TEMPERATURE: f32 = -9999.0;
 
-pub fn nodata(field: Field) -> Nodata {
+pub fn nodata(field: Field) -> Option<f32> {
     match field {
-        Field::Temperature => Nodata::Value(NO_TEMPERATURE),
-        Field::Rain => Nodata::Absent,
+        Field::Temperature => Some(NO_TEMPERATURE),
+        Field::Rain => None,
     }
 }
 
 // One row of samples.
 pub fn row(field: Field, y: u8) -> [f32; 256] {
     let mut samples = [0.0f32; 256];
-    let mut x: usize = 0;
-    while x < 256 {
-        samples[x] = sample(field, x as u8, y);
-        x += 1;
+    for x in 0..=255u8 {
+        samples[x as usize] = sample(field, x, y);
     }
     samples
 }

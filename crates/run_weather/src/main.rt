@@ -11,8 +11,8 @@ mod scale;
 
 use field::Field;
 use legend::Legend;
-use legend_builders::MadeLegend;
-use refusal::Answer;
+use png::Picture;
+use refusal::Refusal;
 use std::rt::Files;
 use std::{fs, io};
 
@@ -20,14 +20,14 @@ use std::{fs, io};
 fn show<R: Files + Print + Eprint>(
     rt: &R,
     name: &str,
-    made: MadeLegend,
+    made: Result<Legend, Refusal>,
     field: Field,
 ) -> io::Result<()> {
-    let answer = made.answer;
-    if let Answer::Refused(_) = answer {
-        return say::answer(rt, answer);
-    }
-    match draw(rt, name, made.legend, field) {
+    let legend = match made {
+        Ok(legend) => legend,
+        Err(why) => return say::refused(rt, why),
+    };
+    match draw(rt, name, legend, field) {
         Ok(agree) => say::map(rt, name, agree),
         Err(error) => say::unwritten(rt, name, error),
     }
@@ -36,14 +36,15 @@ fn show<R: Files + Print + Eprint>(
 // Writes a map with its key, and answers whether its paintings agree.
 fn draw<R: Files + Print>(rt: &R, name: &str, legend: Legend, field: Field) -> io::Result<bool> {
     let file = fs::create(rt, name)?;
-    let drawn = map::rows(rt, png::begin(file)?, legend, field)?;
-    let agree = drawn.agree;
-    png::end(map::key(rt, drawn.picture, legend, legends::scale(field))?)?;
+    let mut picture = Picture::begin(file)?;
+    let agree = map::rows(rt, &mut picture, legend, field)?;
+    map::key(rt, &mut picture, legend, legends::scale(field))?;
+    picture.end()?;
     Ok(agree)
 }
 
 fn main(rt: HostRuntime) -> io::Result<()> {
-    say::text(&rt, "two fields of 256 by 160 samples\n")?;
+    println!(rt; "two fields of 256 by 160 samples")?;
     show(
         &rt,
         "temperature_linear.png",

@@ -2,44 +2,32 @@
 use crate::field::Field;
 use crate::png::Picture;
 use crate::scale::Scale;
-use crate::{field, png, say, scale};
+use crate::{field, say, scale};
 use legend::Legend;
 use std::io;
 use std::io::Write;
 
-// The picture so far, and whether every painting so far had the same words.
-#[derive(Drop)]
-pub struct Drawn<W> {
-    pub picture: Picture<W>,
-    pub agree: bool,
-}
-
-// The 160 rows of the map.
+// The 160 rows of the map. Answers whether every painting has the same words.
 pub fn rows<W: Write + Drop>(
     rt: &impl Print,
-    picture: Picture<W>,
+    picture: &mut Picture<W>,
     legend: Legend,
     field: Field,
-) -> io::Result<Drawn<W>> {
-    let mut drawn = Drawn {
-        picture,
-        agree: true,
-    };
-    let mut y: u8 = 0;
-    while y < 160 {
-        drawn = row(rt, drawn, legend, field, y)?;
-        y += 1;
+) -> io::Result<bool> {
+    let mut agree = true;
+    for y in 0..160 {
+        agree &= row(rt, picture, legend, field, y)?;
     }
-    Ok(drawn)
+    Ok(agree)
 }
 
 fn row<W: Write + Drop>(
     rt: &impl Print,
-    drawn: Drawn<W>,
+    picture: &mut Picture<W>,
     legend: Legend,
     field: Field,
     y: u8,
-) -> io::Result<Drawn<W>> {
+) -> io::Result<bool> {
     let samples = field::row(field, y);
     let words = plain(rt, legend, field, &samples)?;
     let four = in_lanes(rt, legend, 4, field, &samples)?;
@@ -48,11 +36,8 @@ fn row<W: Write + Drop>(
     let agree4 = same(rt, &words, &four, 4, y)?;
     let agree8 = same(rt, &words, &eight, 8, y)?;
     let agree16 = same(rt, &words, &sixteen, 16, y)?;
-    let Drawn { picture, agree } = drawn;
-    Ok(Drawn {
-        picture: png::row(picture, &words, false)?,
-        agree: agree & agree4 & agree8 & agree16,
-    })
+    picture.row(&words, false)?;
+    Ok(agree4 & agree8 & agree16)
 }
 
 fn plain(
@@ -63,7 +48,7 @@ fn plain(
 ) -> io::Result<[u32; 256]> {
     let mut words = [0u32; 256];
     let answer = legend_apply::apply_to_data_scalar(
-        legend,
+        &legend,
         samples,
         field::nodata(field),
         &mut words,
@@ -82,7 +67,7 @@ fn in_lanes(
     let mut words = [0u32; 256];
     let mut scratch = [0u32; 16];
     let answer = legend_apply::apply_to_data_kernel(
-        legend,
+        &legend,
         lanes,
         samples,
         field::nodata(field),
@@ -101,13 +86,11 @@ fn same(
     count: u64,
     y: u8,
 ) -> io::Result<bool> {
-    let mut x: usize = 0;
-    while x < 256 {
+    for x in 0..256 {
         if plain[x] != lanes[x] {
             say::differ(rt, x, y, count)?;
             return Ok(false);
         }
-        x += 1;
     }
     Ok(true)
 }
@@ -115,47 +98,44 @@ fn same(
 // The key: the legend's colours from the lowest to the highest value, marks, and the numbers that they stand for.
 pub fn key<W: Write + Drop>(
     rt: &impl Print,
-    picture: Picture<W>,
+    picture: &mut Picture<W>,
     legend: Legend,
     scale: Scale,
-) -> io::Result<Picture<W>> {
-    let list = legend_apply::color_list(legend);
-    let answer = list.answer;
-    say::answer(rt, answer)?;
+) -> io::Result<()> {
+    let colors = match legend_apply::color_list(&legend) {
+        Ok(colors) => colors,
+        Err(why) => {
+            say::refused(rt, why)?;
+            [0u32; 256]
+        }
+    };
     let empty = scale::paper();
-    let colors = list.colors;
     let marks = scale::marks(scale);
-    let gap = bar(picture, &empty, 4)?;
-    let strip = bar(gap, &colors, 16)?;
-    let marked = bar(strip, &marks, 3)?;
-    let spaced = bar(marked, &empty, 1)?;
-    let told = bar(numbers(spaced, scale)?, &empty, 2)?;
-    png::row(told, &empty, true)
+    bar(picture, &empty, 4)?;
+    bar(picture, &colors, 16)?;
+    bar(picture, &marks, 3)?;
+    bar(picture, &empty, 1)?;
+    numbers(picture, scale)?;
+    bar(picture, &empty, 2)?;
+    picture.row(&empty, true)
 }
 
 // The seven rows of the numbers.
-fn numbers<W: Write + Drop>(picture: Picture<W>, scale: Scale) -> io::Result<Picture<W>> {
-    let mut drawn = picture;
-    let mut row: u8 = 0;
-    while row < 7 {
-        let words = scale::numbers(scale, row);
-        drawn = png::row(drawn, &words, false)?;
-        row += 1;
+fn numbers<W: Write + Drop>(picture: &mut Picture<W>, scale: Scale) -> io::Result<()> {
+    for row in 0..7 {
+        picture.row(&scale::numbers(scale, row), false)?;
     }
-    Ok(drawn)
+    Ok(())
 }
 
 // Some equal rows that are not the last.
 fn bar<W: Write + Drop>(
-    picture: Picture<W>,
+    picture: &mut Picture<W>,
     words: &[u32; 256],
     count: u32,
-) -> io::Result<Picture<W>> {
-    let mut drawn = picture;
-    let mut left = count;
-    while left > 0 {
-        drawn = png::row(drawn, words, false)?;
-        left -= 1;
+) -> io::Result<()> {
+    for _ in 0..count {
+        picture.row(words, false)?;
     }
-    Ok(drawn)
+    Ok(())
 }

@@ -38,10 +38,8 @@ pub fn paper() -> [u32; 256] {
 // A row of marks.
 pub fn marks(scale: Scale) -> [u32; 256] {
     let mut words = paper();
-    let mut k: u8 = 0;
-    while k < scale.steps {
+    for k in 0..scale.steps {
         mark(&mut words, place(scale, k));
-        k += 1;
     }
     mark(&mut words, 255);
     words
@@ -54,12 +52,9 @@ fn mark(words: &mut [u32; 256], x: u8) {
 // One of the seven rows of the numbers.
 pub fn numbers(scale: Scale, row: u8) -> [u32; 256] {
     let mut words = paper();
-    let mut k: u8 = 0;
-    while k < scale.steps {
+    for k in 0..=scale.steps {
         number(&mut words, row, scale, k);
-        k += 1;
     }
-    number(&mut words, row, scale, k);
     words
 }
 
@@ -123,12 +118,11 @@ fn left(x: u8, half: u8) -> u8
 // A row of a glyph, some pixels after a place.
 fn glyph(words: &mut [u32; 256], row: u8, at: u8, after: u8, which: u8) {
     let mut bits = glyph_row(which, row);
-    let mut i: usize = 0;
-    while i < 5 {
-        let x = ((at as usize) + (after as usize) + 4 - i) % 256;
-        words[x] = if bits % 2 == 1 { INK } else { words[x] };
-        bits = bits / 2;
-        i += 1;
+    for i in 0..5 {
+        if bits % 2 == 1 {
+            words[((at as usize) + (after as usize) + 4 - i) % 256] = INK;
+        }
+        bits /= 2;
     }
 }
 

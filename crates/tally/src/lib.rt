@@ -25,15 +25,8 @@ impl Tally {
     pub fn has_room(self, n: usize) -> bool
         ensures { result ≡ has_room self.counts n }
     {
-        let counts = self.counts;
-        let most = 18446744073709551615 - (n as u64);
-        let mut result = true;
-        let mut i: usize = 0;
-        while i < 12 {
-            result = result & (counts[i] <= most);
-            i += 1;
-        }
-        result
+        let most = u64::MAX - n as u64;
+        self.counts.iter().all(|count| *count <= most)
     }
 
     // Each slot's total, to the count of the slot's rule.
@@ -42,11 +35,9 @@ impl Tally {
         ensures { result.counts ≡ spread self.counts rules totals }
     {
         let mut counts = self.counts;
-        let mut s: usize = 0;
-        while s < 7 {
+        for s in 0..7 {
             let rule = rules[s] as usize;
-            counts[rule] = counts[rule] + totals[s];
-            s += 1;
+            counts[rule] += totals[s];
         }
         Tally { counts }
     }
@@ -58,11 +49,9 @@ pub fn weigh(m: usize, codes: [u32; 16], weights: &[u64], number: u64) -> u64
     ensures { result ≡ number + weight_sum weights.now (take m codes) }
 {
     let mut result = number;
-    let mut i: usize = 0;
-    while i < m {
+    for i in 0..m {
         let code = codes[i] as usize;
-        result = result + weights[code];
-        i += 1;
+        result += weights[code];
     }
     result
 }
@@ -74,11 +63,9 @@ pub fn unpack(totals: [u64; 7], number: u64) -> [u64; 7]
 {
     let mut result = totals;
     let mut rest = number;
-    let mut s: usize = 0;
-    while s < 7 {
-        result[s] = result[s] + rest % 512;
-        rest = rest / 512;
-        s += 1;
+    for s in 0..7 {
+        result[s] += rest % 512;
+        rest /= 512;
     }
     result
 }

@@ -1,20 +1,19 @@
 -- The bits of a float: those of the NaN, and that others are a number's. Assumes nothing.
-use mathlib.Core.Bool.{Bool, false, not, true, true≢false}
-use mathlib.Core.Path.{◌≡◌, refl, sym, ap, subst, ◌∙◌}
+use mathlib.Core.Bool.{Bool, not, true, true≢false}
+use mathlib.Core.Path.{◌≡◌, refl, sym, subst, ◌∙◌}
 use Prim.Native.Nat.{ℕ, ◌%◌, ◌<◌, ◌≤◌}
 use borrow.Author.Tests.{lt-ltb, le-ltb}
 use lib.Dec.{T}
-use lib.Ieee.{Float, nan, inf, fin, binary32, is_nan, ne, div, of_bits, to_bits, nan_bits}
+use lib.Ieee.{Float, nan, inf, fin, binary32, is_nan, of_bits, to_bits, nan_bits}
 use lib.Ieee.Bits.{nan_bits_above}
-use lib.Ieee.Compare.{differs_from_itself}
-use Rattle.words.specs.Values.{float_of}
+use Rattle.words.specs.Values.{float_of, bits_of}
 
-no_number : div binary32 (of_bits binary32 0) (of_bits binary32 0) ≡ nan
-unfolding div of_bits
+no_number : of_bits binary32 2143289344 ≡ nan
+unfolding of_bits
 no_number = refl
 
 -- above the bits of infinity is a NaN, and up to them a number
-pub nan_above : (w : ℕ) → 2139095040 < w % 2147483648 → div binary32 (of_bits binary32 0) (of_bits binary32 0) ≡ float_of w
+pub nan_above : (w : ℕ) → 2139095040 < w % 2147483648 → of_bits binary32 2143289344 ≡ float_of w
 unfolding float_of
 nan_above w above = no_number ∙ simp (lt-ltb _ _ above)
 
@@ -25,11 +24,8 @@ bits_of_nan : ◌≡◌ {A = ℕ} 2143289344 (to_bits binary32 nan)
 unfolding to_bits
 bits_of_nan = refl
 
-pub nan_bits_lem : (x : Float) → ne x x ≡ true → ◌≡◌ {A = ℕ} 2143289344 (to_bits binary32 x)
-nan_bits_lem x h = bits_of_nan ∙ ap (to_bits binary32) (sym (differs_from_itself x (subst T (sym h) tt)))
-
-pub is_number : (x : Float) → ne x x ≡ false → T (not (is_nan x))
-unfolding is_nan ne
-is_number nan h = absurd (true≢false h)
-is_number (inf s) h = tt
-is_number (fin s m e) h = tt
+pub nan_bits_lem : (x : Float) → is_nan x ≡ true → ◌≡◌ {A = ℕ} 2143289344 (bits_of x)
+unfolding bits_of is_nan
+nan_bits_lem nan h = bits_of_nan
+nan_bits_lem (inf s) h = absurd (true≢false (sym h))
+nan_bits_lem (fin s m e) h = absurd (true≢false (sym h))

@@ -1,15 +1,14 @@
 // The values that words stand for, and the words of values.
 #![tactic(auto)]
 
-ghost use Rattle.std.specs.Prelude.{◌≡◌, ◌%◌, ◌^◌, ◌<◌};
-ghost use Rattle.std.specs.Int.Signed.{mag};
+ghost use Rattle.std.specs.Prelude.{◌≡◌, ◌%◌};
 ghost use Rattle.words.specs.Values.{word_as_number, float_of, bits_of, short_of, whole_of, signed_of, unsigned_of, low_of, high_of, at_most};
 
 // A word of its bytes, the lowest first.
 pub fn word(a: u8, b: u8, c: u8, d: u8) -> u32
     ensures { result ≡ word_as_number a b c d }
 {
-    (a as u32) + 256 * (b as u32) + 65536 * (c as u32) + 16777216 * (d as u32)
+    u32::from_le_bytes([a, b, c, d])
 }
 
 // The float with these bits, one NaN for all patterns of a NaN.
@@ -18,16 +17,17 @@ pub fn float(word: u32) -> f32
     ensures { result ≡ float_of word }
 {
     if word % 0x8000_0000 > 0x7f80_0000 {
-        return 0.0 / 0.0;
+        return f32::NAN;
     }
     f32::from_bits(word)
 }
 
 // A float's bits, one pattern for a NaN.
+#[tactic(auto, using(crate::proofs::Floats::nan_bits_lem), unfolding(crate::specs::Values::bits_of))]
 pub fn bits(x: f32) -> u32
     ensures { result ≡ bits_of x }
 {
-    if x != x {
+    if x.is_nan() {
         return 0x7fc0_0000;
     }
     f32::to_bits(x)
@@ -59,11 +59,7 @@ pub fn byte(word: u32) -> u8
 pub fn short(word: u32) -> i16
     ensures { result ≡ short_of word }
 {
-    let half = word % 65536;
-    if half < 32768 {
-        return half as i16;
-    }
-    -1 - (65535 - half) as i16
+    ((word % 65536) as u16).cast_signed()
 }
 
 // A whole number in two's complement, of one word.
@@ -71,10 +67,7 @@ pub fn short(word: u32) -> i16
 pub fn key(word: u32) -> i64
     ensures { result ≡ whole_of word }
 {
-    if word < 0x8000_0000 {
-        return word as i64;
-    }
-    -1 - (0xffff_ffff - word) as i64
+    word.cast_signed() as i64
 }
 
 // The same of 64 bits, and those bits of a whole number.
@@ -82,55 +75,31 @@ pub fn key(word: u32) -> i64
 pub fn signed(bits: u64) -> i64
     ensures { result ≡ signed_of bits }
 {
-    if bits < 0x8000_0000_0000_0000 {
-        return bits as i64;
-    }
-    -1 - (0xffff_ffff_ffff_ffff - bits) as i64
+    bits.cast_signed()
 }
 
 pub fn unsigned(key: i64) -> u64
     ensures { result ≡ unsigned_of key }
 {
-    let size = magnitude(key);
-    if key >= 0 {
-        size
-    } else {
-        0xffff_ffff_ffff_ffff - size
-    }
+    key.cast_unsigned()
 }
 
 // The words of a whole number in two's complement, the low one and the high one.
 pub fn low(key: i64) -> u32
     ensures { result ≡ low_of key }
 {
-    let word = (magnitude(key) % 0x1_0000_0000) as u32;
-    if key >= 0 { word } else { 0xffff_ffff - word }
+    (unsigned(key) % 0x1_0000_0000) as u32
 }
 
 pub fn high(key: i64) -> u32
     ensures { result ≡ high_of key }
 {
-    let word = (magnitude(key) / 0x1_0000_0000) as u32;
-    if key >= 0 { word } else { 0xffff_ffff - word }
-}
-
-// A number that is not negative, or -1 less a negative one.
-fn magnitude(key: i64) -> u64
-    ensures { (result ≡ mag key) × (result < 2 ^ 63) }
-{
-    if key >= 0 {
-        return key as u64;
-    }
-    (-1 - key) as u64
+    (unsigned(key) / 0x1_0000_0000) as u32
 }
 
 // A count of the first entries of a list of so many.
 pub fn at_most(word: u32, most: usize) -> usize
     ensures { result ≡ at_most word most }
 {
-    if (word as usize) < most {
-        word as usize
-    } else {
-        most
-    }
+    (word as usize).min(most)
 }

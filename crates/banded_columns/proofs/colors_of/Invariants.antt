@@ -1,11 +1,6 @@
-use Prim.Native.Nat.{◌-◌}
-use lib.ListN.{get_or}
-use Rattle.lists.proofs.Filling.{Filling}
-use Rattle.banded_columns.proofs.Past.{no_band}
+use Rattle.std.proofs.Common.{◌≡◌, map, take, length}
+use Rattle.banded_columns.specs.declared.LegendBand.{LegendBand}
 use Rattle.banded_columns.proofs.colors_of.Given as goal
 
 abbrev pub invariant-loop-i : goal.invariant-loop-i
-invariant-loop-i l = Filling 0 (λ k. (get_or l.bands k no_band).color) 64 64 l.i l.colors
-
-abbrev pub decreases-loop-i : goal.decreases-loop-i
-decreases-loop-i l = 64 - l.i
+invariant-loop-i l = (length l.colors ≡ 64) × (take l.i l.colors ≡ map (λ (b : LegendBand). b.color) (take l.i l.bands))

@@ -1,12 +1,6 @@
-use Prim.Native.Nat.{◌-◌}
-use lib.Ieee.{nan}
-use lib.ListN.{get_or}
-use Rattle.lists.proofs.Filling.{Filling}
-use Rattle.banded_columns.proofs.Past.{no_band}
+use Rattle.std.proofs.Common.{◌≡◌, map, take, length}
+use Rattle.banded_columns.specs.declared.LegendBand.{LegendBand}
 use Rattle.banded_columns.proofs.starts_of.Given as goal
 
 abbrev pub invariant-loop-i : goal.invariant-loop-i
-invariant-loop-i l = Filling nan (λ k. (get_or l.bands k no_band).start) 64 64 l.i l.starts
-
-abbrev pub decreases-loop-i : goal.decreases-loop-i
-decreases-loop-i l = 64 - l.i
+invariant-loop-i l = (length l.starts ≡ 64) × (take l.i l.starts ≡ map (λ (b : LegendBand). b.start) (take l.i l.bands))

@@ -18,27 +18,23 @@ loop-i-init c = (updating_start, updating_start, refl)
 
 pub loop-i-preserved : goal.loop-i-preserved
 loop-i-preserved c =
-    let s4 = c in
-    let s6 = s4 in
-    let s = s6 in
-    let a = s.args in
-    let l = s6.loop-i in
+    let a = c.args in
+    let l = c.loop-i in
     let held = c.holds-held.ensures in
     let entered = ap₂ (λ (x y : Bool). x || y) (l.invariant.1.rest l.i (omega arith)) held in
     let word = c.pick.ensures ∙ ap₂ (λ (t : Bool) (w : ℕ). cond t a.band.color w) held (l.invariant.0.rest l.i (omega arith)) in (
-      updating_turn l.invariant.0 (omega arith) (omega (arith, lanes-length s.requires.1 s.requires.0)) word,
-      updating_turn l.invariant.1 (omega arith) (omega (arith, lanes-length s.requires.2 s.requires.0)) entered,
+      updating_turn l.invariant.0 (omega arith) (omega (arith, lanes-length c.requires.1 c.requires.0)) word,
+      updating_turn l.invariant.1 (omega arith) (omega (arith, lanes-length c.requires.2 c.requires.0)) entered,
       ap₂ (λ (x y : Bool). x && y) l.invariant.2 entered ∙ below_more l.i (λ k. get_or a.inside.now k false || holds a.band (get_or a.value.now k nan)),
     )
 
 pub returns : goal.returns
 returns c =
-    let s = c in
-    let a = s.args in
+    let a = c.args in
     let l = c.loop-i in
     let e : l.i ≡ a.lanes = omega arith in
     record {
-      colored = updating_end s.requires.1 s.requires.0 l.invariant.0 (omega arith);
-      entered = updating_end s.requires.2 s.requires.0 l.invariant.1 (omega arith);
+      colored = updating_end c.requires.1 c.requires.0 l.invariant.0 (omega arith);
+      entered = updating_end c.requires.2 c.requires.0 l.invariant.1 (omega arith);
       all_inside = l.invariant.2 ∙ ap (λ (n : ℕ). all_below n (λ k. get_or a.inside.now k false || holds a.band (get_or a.value.now k nan))) e;
     }

@@ -1,4 +1,3 @@
-use Prim.Native.Nat.{◌-◌}
 use mathlib.Core.Path.{◌≡◌}
 use mathlib.Core.Bool.{false, cond, ◌||◌}
 use lib.ListN.{get_or}
@@ -13,6 +12,3 @@ invariant-loop-i l =
     Updating 0 (λ k. cond (holds l.band (get_or l.value k nan)) l.band.color (get_or l.initial.words k 0)) l.lanes l.initial.words l.i l.words
     × Updating false (λ k. get_or l.initial.inside k false || holds l.band (get_or l.value k nan)) l.lanes l.initial.inside l.i l.inside
     × (l.all ≡ all_below l.i (λ k. get_or l.initial.inside k false || holds l.band (get_or l.value k nan)))
-
-abbrev pub decreases-loop-i : goal.decreases-loop-i
-decreases-loop-i l = l.lanes - l.i

@@ -2,7 +2,6 @@
 use mathlib.Core.Path.{refl}
 use native.Mathlib.Omega.{arith}
 use Rattle.lists.proofs.Padding.{storing_start, storing_turn}
-use Rattle.lists.proofs.LanesOf.{lanes-stored}
 use Rattle.banded_lanes.proofs.nodata_lanes.Goals as goal
 
 pub loop-i-init : goal.loop-i-init
@@ -10,6 +9,3 @@ loop-i-init c = storing_start
 
 pub loop-i-preserved : goal.loop-i-preserved
 loop-i-preserved c = storing_turn c.loop-i.invariant (omega arith) (omega arith) refl
-
-pub returns : goal.returns
-returns c = lanes-stored c.loop-i.invariant (omega arith)

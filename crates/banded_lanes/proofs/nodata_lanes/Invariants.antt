@@ -1,9 +1,5 @@
-use Prim.Native.Nat.{◌-◌}
 use Rattle.lists.proofs.Padding.{Storing}
 use Rattle.banded_lanes.proofs.nodata_lanes.Given as goal
 
 abbrev pub invariant-loop-i : goal.invariant-loop-i
 invariant-loop-i l = Storing 0 (λ k. l.nodata) 16 l.lanes l.i l.result
-
-abbrev pub decreases-loop-i : goal.decreases-loop-i
-decreases-loop-i l = l.lanes - l.i

@@ -1,4 +1,3 @@
-use Prim.Native.Nat.{◌-◌}
 use mathlib.Core.Path.{◌≡◌}
 use lib.ListN.{length}
 use Rattle.banded_lists.proofs.Equal.{Laying}
@@ -6,6 +5,3 @@ use Rattle.banded_lists.proofs.equal_bands.Given as goal
 
 abbrev pub invariant-loop-i : goal.invariant-loop-i
 invariant-loop-i l = (length l.bands ≡ 64) × Laying l.start l.step l.colors l.count l.i l.position l.bands
-
-abbrev pub decreases-loop-i : goal.decreases-loop-i
-decreases-loop-i l = l.count - l.i

@@ -1,7 +1,7 @@
 -- `range_bands` meets its contract. Assumes nothing.
 use mathlib.Core.Path.{◌≡◌, ap, ◌∙◌}
 use native.Mathlib.Omega.{arith}
-use lib.ListN.{length, take, length-take}
+use lib.ListN.{length}
 use borrow.Author.Rules.{rules}
 use Rattle.lists.proofs.Padding.{storing_turn, storing_end}
 use Rattle.banded_lists.specs.Padded.{padded_bands}
@@ -18,10 +18,8 @@ loop-i-preserved c = (search rules, storing_turn c.loop-i.invariant.1 (omega ari
 
 pub returns : goal.returns
 returns c =
-    let a = c.args in
-    let g : length a.ranges ≡ 64 = search rules in
-    let f : length a.colors ≡ 256 = search rules in
-    let n : length (take a.count a.ranges) ≡ a.count = omega (arith, length-take a.count a.ranges) in (
-      storing_end c.loop-i.invariant.1 (omega arith) ∙ ap padded_bands (range-bands no_range a.count a.ranges a.colors (omega arith) (omega arith)),
-      range_length (take a.count a.ranges) a.colors (omega arith) ∙ n,
+    let ranges = c.args.ranges.now in
+    let long : length c.args.colors ≡ 256 = search rules in (
+      storing_end c.loop-i.invariant.1 (omega arith) ∙ ap padded_bands (range-bands no_range ranges c.args.colors (omega arith)),
+      range_length ranges c.args.colors (omega arith),
     )

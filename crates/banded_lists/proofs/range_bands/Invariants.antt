@@ -1,4 +1,3 @@
-use Prim.Native.Nat.{◌-◌}
 use mathlib.Core.Path.{◌≡◌}
 use lib.ListN.{length, get_or}
 use Rattle.lists.proofs.Padding.{Storing}
@@ -9,7 +8,4 @@ use Rattle.banded_lists.proofs.range_bands.Given as goal
 
 abbrev pub invariant-loop-i : goal.invariant-loop-i
 invariant-loop-i l =
-    (length l.bands ≡ 64) × Storing blank_band (λ k. band_of (get_or l.ranges k no_range) (get_or l.colors k 0)) 64 l.count l.i l.bands
-
-abbrev pub decreases-loop-i : goal.decreases-loop-i
-decreases-loop-i l = l.count - l.i
+    (length l.bands ≡ 64) × Storing blank_band (λ k. band_of (get_or l.ranges k no_range) (get_or l.colors k 0)) 64 (length l.ranges) l.i l.bands

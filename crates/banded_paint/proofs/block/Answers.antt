@@ -5,6 +5,4 @@ use Rattle.painting.proofs.LaneChunk.{lanes_laid}
 use Rattle.banded_paint.proofs.block.Goals as goal
 
 pub returns : goal.returns
-returns c =
-    let w = c in
-    lanes_laid _ _ _ _ 16 _ refl (omega arith) (omega arith) w.load-v.ensures c.store.ensures _ w.words.ensures
+returns c = lanes_laid _ _ _ _ 16 _ refl (omega arith) (omega arith) c.load-v.ensures c.store.ensures _ c.words.ensures

@@ -1,13 +1,11 @@
-use Prim.Native.Nat.{◌-◌}
-use Rattle.painting.proofs.Steps.{InChunks}
+use Prim.Native.Nat.{◌*◌}
 use mathlib.Core.List.{map}
-use Rattle.banded_rule.specs.forms.Columns.{from_columns}
+use Rattle.painting.proofs.Steps.{InChunks}
+use Rattle.banded_rule.specs.forms.Columns.{bands_of}
 use Rattle.banded_chunk.specs.forms.Samples.{plain_sample}
 use Rattle.banded_paint.proofs.paint.Given as goal
 
-abbrev pub invariant-loop-base : goal.invariant-loop-base
-invariant-loop-base l =
-    InChunks 16 (map (plain_sample (from_columns l.starts l.ends l.colors l.p.count) l.p)) (plain_sample (from_columns l.starts l.ends l.colors l.p.count) l.p) l.src l.base l.out
-
-abbrev pub decreases-loop-base : goal.decreases-loop-base
-decreases-loop-base l = l.n - l.base
+abbrev pub invariant-loop-k : goal.invariant-loop-k
+invariant-loop-k l =
+    let sample = plain_sample (bands_of l.columns) l.p in
+    InChunks 16 (map sample) sample l.src (16 * l.k) l.out

@@ -10,9 +10,5 @@ returns-then-m-eq0 c = let a = c.args in rest_none _ a.src.now a.out.now a.base 
 
 pub returns : goal.returns
 returns c =
-    let s = c in
-    let s4 = s in
-    let s5 = s4 in
-    let a = s5.args in
-    rest_lanes a.src.now a.out.now a.base _ (omega arith) (omega arith) (omega arith) s.load-v.ensures c.store.ensures
-    _ s.words.ensures
+    let a = c.args in
+    rest_lanes a.src.now a.out.now a.base _ (omega arith) (omega arith) (omega arith) c.load-v.ensures c.store.ensures _ c.words.ensures

@@ -1,4 +1,3 @@
-use Prim.Native.Nat.{◌-◌}
 use lib.ListN.{get_or}
 use lib.Ieee.{nan}
 use Rattle.lists.proofs.Filling.{Filling}
@@ -7,6 +6,3 @@ use Rattle.banded_rule.proofs.edge_colors.Given as goal
 
 abbrev pub invariant-loop-i : goal.invariant-loop-i
 invariant-loop-i l = Filling 0 (λ k. edge_color l.first l.last l.u (get_or l.value k nan)) 16 16 l.i l.result
-
-abbrev pub decreases-loop-i : goal.decreases-loop-i
-decreases-loop-i l = 16 - l.i

@@ -1,4 +1,3 @@
-use Prim.Native.Nat.{◌-◌}
 use mathlib.Core.Bool.{cond}
 use lib.ListN.{get_or}
 use lib.Ieee.{nan}
@@ -8,6 +7,3 @@ use Rattle.banded_rule.proofs.overwritten.Given as goal
 
 abbrev pub invariant-loop-i : goal.invariant-loop-i
 invariant-loop-i l = Filling 0 (λ k. cond (holds l.band (get_or l.value k nan)) l.band.color (get_or l.words k 0)) 16 16 l.i l.result
-
-abbrev pub decreases-loop-i : goal.decreases-loop-i
-decreases-loop-i l = 16 - l.i

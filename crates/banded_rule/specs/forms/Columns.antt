@@ -4,6 +4,7 @@ use Rattle.std.specs.Prelude.{ℕ, List, Float, get_or}
 use Rattle.std.specs.Float.{nan}
 use Rattle.lists.specs.Tabulate.{tabulate}
 use Rattle.banded_columns.specs.declared.LegendBand.{LegendBand}
+use Rattle.banded_rule.specs.declared.columns.Columns.{Columns}
 
 -- the band at k
 abbrev pub band_at : (starts ends : List Float) (colors : List ℕ) → ℕ → LegendBand
@@ -11,3 +12,10 @@ band_at starts ends colors k = record { start = get_or starts k nan; end = get_o
 
 unfoldable pub from_columns : (starts ends : List Float) (colors : List ℕ) (count : ℕ) → List LegendBand
 from_columns starts ends colors count = tabulate count (band_at starts ends colors)
+
+-- the same of borrowed columns: the counted bands, and the one at k
+abbrev pub bands_of : Columns → List LegendBand
+bands_of c = from_columns c.starts.now c.ends.now c.colors.now c.count
+
+abbrev pub nth_band : Columns → ℕ → LegendBand
+nth_band c k = band_at c.starts.now c.ends.now c.colors.now k

@@ -1,4 +1,3 @@
-use Prim.Native.Nat.{◌-◌}
 use lib.ListN.{get_or}
 use lib.Ieee.{nan}
 use Rattle.lists.proofs.Padding.{Storing}
@@ -7,7 +6,5 @@ use Rattle.banded_search.proofs.colors_at.Given as goal
 
 abbrev pub invariant-loop-i : goal.invariant-loop-i
 invariant-loop-i l =
-    Storing 0 (λ k. color_at l.starts l.ends l.colors (get_or l.indices k 0) (get_or l.value k nan) (get_or l.otherwise k 0)) 16 l.lanes l.i l.result
-
-abbrev pub decreases-loop-i : goal.decreases-loop-i
-decreases-loop-i l = l.lanes - l.i
+    let b = l.columns in
+    Storing 0 (λ k. color_at b.starts.now b.ends.now b.colors.now (get_or l.indices k 0) (get_or l.value k nan) (get_or l.otherwise k 0)) 16 l.lanes l.i l.result

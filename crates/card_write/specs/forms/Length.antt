@@ -1,10 +1,8 @@
 -- How many bytes a card has, counted before it is written. The rule is the length of `card_of`; the law is `card_length_lem` (proofs/Lengths.antt).
 -- The writer's refusals by these numbers: the rule is `write_refusal`; the law is `refusal_of_lengths`, in the same file. Definitions only.
 use Rattle.std.specs.Prelude.{ℕ, ◌+◌, ◌*◌, not, ◌||◌, ltb}
+use Rattle.refusal.specs.Outcome.{Answer, Done, refuse_if, first_of}
 use Rattle.refusal.specs.declared.Refusal.TheVariants.{CountAboveCapacity, CardTooLong}
-use Rattle.refusal.specs.declared.Answer.{Answer}
-use Rattle.refusal.specs.declared.Answer.TheVariants.{Done}
-use Rattle.refusal.specs.Outcome.{refuse_if, first_of}
 use Rattle.legend.specs.declared.LegendKind.{LegendKind}
 use Rattle.legend.specs.declared.LegendKind.TheVariants as kind
 use Rattle.legend.specs.declared.Legend.{Legend}

@@ -1,4 +1,5 @@
 -- `to_i64` meets its contract. Assumes nothing.
+use Rattle.std.specs.Prelude.{Some}
 use mathlib.Core.Path.{◌≡◌, sym, ap, ◌∙◌, subst}
 use mathlib.Core.Bool.{Bool, false, not, true≢false}
 use Prim.Native.Nat.{ℕ, ◌^◌}
@@ -10,7 +11,6 @@ use lib.Ieee.Bits.{is_true, is_false}
 use lib.Ieee.Compare.{differs_from_itself}
 use Rattle.cast.specs.Truncated.{signed, truncated}
 use Rattle.cast.specs.forms.Pattern.{whole_part}
-use Rattle.cast.specs.declared.Truncated.TheVariants.{Whole}
 use Rattle.cast.proofs.Bits.{field_is, small, middle, edge, large, nought_less, less_fits}
 use lib.IntN.{pos, neg_ℤ, ◌-ℤ◌}
 use mir.Syntax.{w64}
@@ -59,7 +59,7 @@ returns-then-bits-ge2147483648 c =
     let b = to_bits binary32 x in
     let u = c.magnitude-size.result in
     let h = c.magnitude-size.ensures.1 in
-    ap Whole (to_z-of_z w64 (pos 0 -ℤ to_z w64 u) (less_fits u h) ∙ nought_less u h ∙ ap (λ (n : ℕ). neg_ℤ (pos n)) c.magnitude-size.ensures.0
+    ap Some (to_z-of_z w64 (pos 0 -ℤ to_z w64 u) (less_fits u h) ∙ nought_less u h ∙ ap (λ (n : ℕ). neg_ℤ (pos n)) c.magnitude-size.ensures.0
     ∙ ap (λ (t : Bool). signed t (whole_part b)) (sym (is_true (leb (2 ^ 31) b) (le→leb (2 ^ 31) b c.if-bits-ge2147483648.true))))
     ∙ sym (middle x (held c.before.before.before.before.before) (omega (arith, field_is b)) (omega (arith, field_is b)))
 
@@ -70,6 +70,6 @@ returns c =
     let x = s.args.x in
     let b = to_bits binary32 x in
     let u = c.magnitude-size.result in
-    ap Whole (to_z_pos w64 u c.magnitude-size.ensures.1 ∙ ap pos c.magnitude-size.ensures.0 ∙ ap (λ (t : Bool). signed t (whole_part b))
+    ap Some (to_z_pos w64 u c.magnitude-size.ensures.1 ∙ ap pos c.magnitude-size.ensures.0 ∙ ap (λ (t : Bool). signed t (whole_part b))
     (sym (is_false (leb (2 ^ 31) b) (lt→nleb (2 ^ 31) b c.if-bits-ge2147483648.false))))
     ∙ sym (middle x (held c.before.before.before.before.before) (omega (arith, field_is b)) (omega (arith, field_is b)))

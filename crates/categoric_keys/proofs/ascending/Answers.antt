@@ -1,40 +1,20 @@
 -- `ascending` meets its contract. Assumes nothing.
-use mathlib.Core.Path.{◌≡◌, sym, ap, ◌∙◌}
-use Prim.Native.Nat.{◌+◌, min}
+use borrow.Author.Rules.{rules}
+use mathlib.Core.Path.{refl, sym}
 use native.Mathlib.Omega.{arith}
-use mir.Syntax.{w64}
-use mir.ValLaws.{to_z-of_z}
 use Rattle.categoric_lists.specs.Ascending.{ascends}
-use Rattle.categoric_keys.proofs.Ascent.{few, stops, goes_on}
-use mathlib.Core.Path.{ap}
-use mathlib.Core.Bool.{not}
+use Rattle.categoric_keys.proofs.Ascent.{stops, goes_on, all_ascend}
 use Rattle.categoric_keys.proofs.ascending.Goals as goal
 
 pub loop-i-init : goal.loop-i-init
-loop-i-init c = (omega arith, few c.args.keys.now (min 1 c.args.count) (omega arith))
+unfolding ascends
+loop-i-init c = refl
 
-pub returns-then-not-below : goal.returns-then-not-below
-returns-then-not-below c =
-    let l = c in
-    let a = l.args in
-    sym (stops a.keys.now l.loop-i.i l.loop-i.invariant.0 (to_z-of_z w64 _ (record { sfits = c.below-1.given }))
-    (to_z-of_z w64 _ (record { sfits = c.below-in-loop-i-1.given })) a.count (omega arith) (ap not c.if-not-below.true))
+pub returns-then-keys-i : goal.returns-then-keys-i
+returns-then-keys-i c = sym (stops c.args.keys.now c.loop-i.i (omega arith) (search rules) (search rules) _ c.loop-i-test.true c.if-keys-i.true)
 
 pub loop-i-preserved : goal.loop-i-preserved
-loop-i-preserved c =
-    let l = c in
-    let a = l.args in
-    let i = l.loop-i.i in
-    let d : min i a.count ≡ i = omega arith in
-    let e : min (i + 1) a.count ≡ i + 1 = omega arith in
-    let up = sym (ap (ascends a.keys.now) d) ∙ l.loop-i.invariant.1 in
-    let one = to_z-of_z w64 _ (record { sfits = c.below-1.given }) in
-    let next = to_z-of_z w64 _ (record { sfits = c.below-in-loop-i-1.given }) in
-    (omega arith, ap (ascends a.keys.now) e ∙ goes_on a.keys.now i l.loop-i.invariant.0 one next up (ap not c.if-not-below.false))
+loop-i-preserved c = goes_on c.args.keys.now c.loop-i.i (omega arith) (search rules) (search rules) c.loop-i.invariant c.if-keys-i.false
 
 pub returns : goal.returns
-returns c =
-    let l = c in
-    let a = l.args in
-    let e : min l.loop-i.i a.count ≡ a.count = omega arith in
-    sym (sym (ap (ascends a.keys.now) e) ∙ l.loop-i.invariant.1)
+returns c = sym (all_ascend c.args.keys.now c.loop-i.i _ c.loop-i-test.false c.loop-i.auto.i-end c.loop-i.invariant)

@@ -1,6 +1,6 @@
 -- `range_keys` meets its contract: the loop has stored the keys passed, each of which fits. Assumes nothing.
 use mathlib.Core.Path.{sym, subst, ap, ◌∙◌}
-use Prim.Native.Nat.{◌-◌, ◌^◌, ◌<◌}
+use Prim.Native.Nat.{◌^◌, ◌<◌}
 use native.Mathlib.Omega.{arith}
 use borrow.Author.Rules.{rules}
 use lib.IntN.{pos, ◌+ℤ◌}
@@ -17,8 +17,8 @@ use Rattle.categoric_lists.proofs.range_keys.Goals as goal
 pub loop-i-init : goal.loop-i-init
 loop-i-init c = (search rules, storing_start)
 
-pub overflow_add-key : goal.overflow_add-key
-overflow_add-key c =
+pub overflow_add-keys : goal.overflow_add-keys
+overflow_add-keys c =
     let l = c.loop-i in
     record {
       sfits =
@@ -29,17 +29,15 @@ overflow_add-key c =
 
 pub loop-i-preserved : goal.loop-i-preserved
 loop-i-preserved c =
-    let s = c in
     let l = c.loop-i in (
       search rules,
       storing_turn l.invariant.1 c.loop-i-test.true (search rules)
-          (ap (λ z. to_z w64 (of_z w64 (to_z w64 (of_z w64 s.args.start) +ℤ z))) (to_z_pos w64 l.i (omega arith))
-          ∙ back (to_z w64 (of_z w64 s.args.start) +ℤ pos l.i)
-          (subst (λ z. mag (z +ℤ pos l.i) < 2 ^ 63) (sym (back s.args.start s.ranges.start.sfits)) (s.requires.1 l.i c.loop-i-test.true).sfits)),
+          (ap (λ z. to_z w64 (of_z w64 (to_z w64 (of_z w64 c.args.start) +ℤ z))) (to_z_pos w64 l.i (omega arith))
+          ∙ back (to_z w64 (of_z w64 c.args.start) +ℤ pos l.i)
+          (subst (λ z. mag (z +ℤ pos l.i) < 2 ^ 63) (sym (back c.args.start c.ranges.start.sfits)) (c.requires.1 l.i c.loop-i-test.true).sfits)),
     )
 
 pub returns : goal.returns
 returns c =
-    let s = c in
     storing_end c.loop-i.invariant.1 (omega arith)
-    ∙ ap (λ z. padded (pos 0) 256 (tabulate s.args.count (λ k. z +ℤ pos k))) (back s.args.start s.ranges.start.sfits)
+    ∙ ap (λ z. padded (pos 0) 256 (tabulate c.args.count (λ k. z +ℤ pos k))) (back c.args.start c.ranges.start.sfits)

@@ -1,7 +1,5 @@
 -- A form of the code: keys and samples as 32-bit numbers. That a search among them gives `key_color` is proofs/Sought.antt (sample_color). Definitions only.
-use Rattle.std.specs.Prelude.{ℕ, ◌≤◌, ◌<◌, ◌≡◌, true, cond, List, ℤ, pos, negsuc, get_or}
-use Rattle.cast.specs.declared.Truncated.{Truncated}
-use Rattle.cast.specs.declared.Truncated.TheVariants.{Whole, Outside}
+use Rattle.std.specs.Prelude.{Option, Some, None, ℕ, ◌≤◌, ◌<◌, ◌≡◌, true, cond, List, ℤ, pos, negsuc, get_or}
 use Rattle.categoric_search.specs.forms.Searchable.{in_key_range, searchable}
 
 -- 256 numbers: the counted keys, which can be searched, and then one that is above every key
@@ -16,6 +14,6 @@ abbrev pub none : ℤ
 none = negsuc 16777216
 
 -- the key of a cut sample
-unfoldable pub narrow_key : Truncated → ℤ
-narrow_key (Whole z) = cond (in_key_range z) z none
-narrow_key Outside = none
+unfoldable pub narrow_key : Option ℤ → ℤ
+narrow_key (Some z) = cond (in_key_range z) z none
+narrow_key None = none

@@ -22,9 +22,7 @@ floor-index-requires c =
     record { from_zero = place_from _ p; below_1024 = place_below _ p }
 
 index-lt : (c : After-floor-index) → c.floor-index.result < 513
-index-lt c =
-    let l = c in
-    omega (arith, c.floor-index.ensures, place_lt _ (l.requires.1 l.loop-i.i c.loop-i-test.true))
+index-lt c = omega (arith, c.floor-index.ensures, place_lt _ (c.requires.1 c.loop-i.i c.loop-i-test.true))
 
 pub offset_bounds-lookup-index : goal.offset_bounds-lookup-index
 offset_bounds-lookup-index c = let l = index-lt c in search rules
@@ -33,9 +31,7 @@ pub bounds-lookup-index : goal.bounds-lookup-index
 bounds-lookup-index c = let l = index-lt c.before.before in search rules
 
 pub loop-i-preserved : goal.loop-i-preserved
-loop-i-preserved c =
-    let l = c in
-    storing_turn l.loop-i.invariant (omega arith) (omega arith) (ap (λ k. get_or l.args.lookup.now k 0) c.floor-index.ensures)
+loop-i-preserved c = storing_turn c.loop-i.invariant (omega arith) (omega arith) (ap (λ k. get_or c.args.lookup.now k 0) c.floor-index.ensures)
 
 pub returns : goal.returns
 returns c = lanes-stored c.loop-i.invariant (omega arith)

@@ -1,4 +1,3 @@
-use Prim.Native.Nat.{◌-◌}
 use lib.ListN.{get_or}
 use lib.Ieee.{nan}
 use Rattle.lists.proofs.Padding.{Storing}
@@ -7,6 +6,3 @@ use Rattle.categoric_table.proofs.words_at.Given as goal
 
 abbrev pub invariant-loop-i : goal.invariant-loop-i
 invariant-loop-i l = Storing 0 (λ k. get_or l.lookup (floor_of (get_or l.places k nan)) 0) 16 l.lanes l.i l.result
-
-abbrev pub decreases-loop-i : goal.decreases-loop-i
-decreases-loop-i l = l.lanes - l.i

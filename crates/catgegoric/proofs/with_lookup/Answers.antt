@@ -4,7 +4,5 @@ use Rattle.catgegoric.proofs.with_lookup.Goals as goal
 
 pub returns : goal.returns
 returns c =
-    let s4 = c in
-    let s = s4 in
-    ap₂ (λ l n. record { keys = s.args.keys; colors = s.args.colors; count = s.args.count; lookup = l; lookup_count = n }) c.create_fast_lookup-lookup.ensures
+    ap₂ (λ l n. record { keys = c.args.keys; colors = c.args.colors; count = c.args.count; lookup = l; lookup_count = n }) c.create_fast_lookup-lookup.ensures
     c.lookup_size-lookup_count.ensures

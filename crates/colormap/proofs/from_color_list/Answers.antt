@@ -1,8 +1,7 @@
 -- `from_color_list` meets its contract. Assumes nothing.
 use borrow.Author.Rules.{rules}
 use native.Mathlib.Omega.{arith}
-use Prim.Native.Nat.{◌-◌}
-use Rattle.colormap.specs.Spread.{spread_at, spread}
+use Rattle.colormap.specs.Spread.{spread}
 use Rattle.lists.proofs.Filling.{filling_start, filling_turn, filled}
 use Rattle.colormap.proofs.from_color_list.Goals as goal
 

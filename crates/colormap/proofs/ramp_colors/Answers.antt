@@ -2,7 +2,6 @@
 use mathlib.Core.Path.{ap₂, sym, refl, ap, ◌∙◌}
 use borrow.Author.Rules.{rules}
 use native.Mathlib.Omega.{arith}
-use Prim.Native.Nat.{◌-◌}
 use lib.Ieee.{of_bits, binary32, add}
 use Rattle.lists.proofs.Padding.{storing_start, storing_turn, storing_end}
 use Rattle.colormap.specs.Positions.{position as at, ramp_colors}

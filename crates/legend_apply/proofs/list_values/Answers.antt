@@ -1,7 +1,7 @@
 -- `list_values` meets its contract. Assumes nothing.
 use borrow.Author.Rules.{rules}
 use native.Mathlib.Omega.{arith}
-use Prim.Native.Nat.{◌-◌, ◌^◌}
+use Prim.Native.Nat.{◌^◌}
 use lib.Dec.{le→leb}
 use lib.Ieee.{in_float}
 use Rattle.lists.proofs.Filling.{filling_start, filling_turn, filled}
@@ -16,11 +16,7 @@ unfolding in_float
 int_to_float-values c = le→leb c.loop-i.i (2 ^ 24) (omega arith)
 
 pub loop-i-preserved : goal.loop-i-preserved
-loop-i-preserved c =
-    let s4 = c in
-    let s5 = s4 in
-    filling_turn c.loop-i.invariant (omega arith) (omega arith)
-    (value-is s5.args.range c.loop-i.i)
+loop-i-preserved c = filling_turn c.loop-i.invariant (omega arith) (omega arith) (value-is c.args.range c.loop-i.i)
 
 pub returns : goal.returns
 returns c = filled c.loop-i.invariant (omega arith)

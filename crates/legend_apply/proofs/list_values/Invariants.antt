@@ -1,4 +1,3 @@
-use Prim.Native.Nat.{◌-◌}
 use lib.Ieee.{nan}
 use Rattle.lists.proofs.Filling.{Filling}
 use Rattle.legend_apply.specs.ColorLists.{value_at}
@@ -6,6 +5,3 @@ use Rattle.legend_apply.proofs.list_values.Given as goal
 
 abbrev pub invariant-loop-i : goal.invariant-loop-i
 invariant-loop-i l = Filling nan (value_at l.range) 256 256 l.i l.values
-
-abbrev pub decreases-loop-i : goal.decreases-loop-i
-decreases-loop-i l = 256 - l.i

@@ -1,30 +1,20 @@
 -- `apply_to_data_kernel` meets its contract. Assumes nothing.
-use mathlib.Core.Path.{refl}
+use Rattle.std.proofs.Common.{rules}
+use lib.ListN.{length-map}
 use Rattle.legend_kernel.proofs.Calls.{lanes_free, scratch_free, lanes_refused, lanes-done}
 use Rattle.legend_kernel.proofs.apply_to_data_kernel.Goals as goal
 
-pub returns-in-Refused : goal.returns-in-Refused
-returns-in-Refused c =
-    let asked = c in
-    lanes_refused _ _ refl (asked.stored_refusal.ensures _ _ _ _) asked.lane_refusal-answer.ensures c.in-Refused.is
+pub returns-in_err-lane_refusal : goal.returns-in_err-lane_refusal
+returns-in_err-lane_refusal g c =
+    lanes_refused _ _ (simp length-map) c.stored_refusal.ensures c.lane_refusal.ensures c.in_err-lane_refusal.was (search rules)
 
-pub paint_simd-requires : goal.paint_simd-requires
-paint_simd-requires c =
-    let told = c in
-    let asked = told in
-    lanes_free _ _ _ _ _ asked.lane_refusal-answer.ensures told.in_default.is _ (asked.stored_refusal.ensures _ _ _ _)
+pub paint-requires : goal.paint-requires
+paint-requires g c = lanes_free _ _ _ _ _ c.lane_refusal.ensures c.in_ok-lane_refusal.was _ c.stored_refusal.ensures
 
 pub update_scratch-requires : goal.update_scratch-requires
-update_scratch-requires c =
-    let s4 = c in
-    let told = s4 in
-    scratch_free _ _ _ _ _ told.lane_refusal-answer.ensures told.in_default.is
+update_scratch-requires g c = scratch_free _ _ _ _ _ c.lane_refusal.ensures c.in_ok-lane_refusal.was
 
 pub returns : goal.returns
-returns c =
-    let s4 = c in
-    let painted = s4 in
-    let told = painted in
-    let asked = told in
-    lanes-done _ _ refl (asked.stored_refusal.ensures _ _ _ _) asked.lane_refusal-answer.ensures told.in_default.is
-    (painted.simd_supported-simd.ensures _ _ _ _) painted.paint_simd.ensures c.update_scratch.ensures
+returns g c =
+    lanes-done _ _ (simp length-map) c.stored_refusal.ensures c.lane_refusal.ensures c.in_ok-lane_refusal.was
+    c.simd_supported.ensures c.paint.ensures c.update_scratch.ensures

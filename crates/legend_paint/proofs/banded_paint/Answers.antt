@@ -6,5 +6,5 @@ use Rattle.legend_paint.proofs.banded_paint.Goals as goal
 
 pub returns : goal.returns
 returns c =
-    let a = c.args in ap₂ (λ (u : UnmappableColors) (e : Exclusions). record { count = a.banded.count; unmappable = u; exclusions = e })
+    let a = c.args in ap₂ (λ (u : UnmappableColors) (e : Exclusions). record { unmappable = u; exclusions = e })
     c.unmappable_colors.ensures c.exclusions_of.ensures

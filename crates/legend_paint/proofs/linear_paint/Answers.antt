@@ -1,10 +1,5 @@
 -- `linear_paint` meets its contract. Assumes nothing.
-use mathlib.Core.Path.{ap₂}
-use Rattle.colormapper.specs.declared.UnmappableColors.{UnmappableColors}
-use Rattle.colormapper.specs.declared.Exclusions.{Exclusions}
 use Rattle.legend_paint.proofs.linear_paint.Goals as goal
 
 pub returns : goal.returns
-returns c =
-    let a = c.args in ap₂ (λ (u : UnmappableColors) (e : Exclusions). record { start = a.start; end = a.end; colors = u; exclusions = e })
-    c.unmappable_colors.ensures c.exclusions_of.ensures
+returns c = cc (c.unmappable_colors-colors.ensures, c.exclusions_of.ensures)

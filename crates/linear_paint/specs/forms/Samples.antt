@@ -3,14 +3,15 @@
 use Rattle.std.specs.Prelude.{ℕ, List, Float}
 use Rattle.colormapper.specs.forms.Exclusions.{excluded}
 use Rattle.painting.specs.Masked.{masked, masked_color}
-use Rattle.linear_rule.specs.Rule.{plain_color, lane_color, lane_colors}
+use Rattle.linear_rule.specs.Rule.{lane_colors}
+use Rattle.linear_rule.specs.forms.LinearRules.{plain_color_by, lane_color_by}
 use Rattle.linear_paint.specs.declared.LinearPaint.{LinearPaint}
 
-abbrev pub plain_sample : (cmap : List ℕ) → LinearPaint → Float → ℕ
-plain_sample cmap p = masked_color (excluded p.exclusions) p.colors.nodata (plain_color cmap p.start p.end p.colors)
+abbrev pub plain_sample : LinearPaint → Float → ℕ
+plain_sample p = masked_color (excluded p.exclusions) p.rule.colors.nodata (plain_color_by p.rule)
 
-abbrev pub lane_sample : (cmap : List ℕ) → LinearPaint → Float → ℕ
-lane_sample cmap p = masked_color (excluded p.exclusions) p.colors.nodata (lane_color cmap p.start p.end p.colors)
+abbrev pub lane_sample : LinearPaint → Float → ℕ
+lane_sample p = masked_color (excluded p.exclusions) p.rule.colors.nodata (lane_color_by p.rule)
 
-abbrev pub lane_chunk : (cmap : List ℕ) → LinearPaint → List Float → List ℕ
-lane_chunk cmap p vs = masked (excluded p.exclusions) p.colors.nodata vs (lane_colors cmap p.start p.end p.colors vs)
+abbrev pub lane_chunk : LinearPaint → List Float → List ℕ
+lane_chunk p vs = masked (excluded p.exclusions) p.rule.colors.nodata vs (lane_colors p.rule.cmap.now p.rule.start p.rule.end p.rule.colors vs)

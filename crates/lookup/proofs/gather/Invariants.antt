@@ -1,4 +1,3 @@
-use Prim.Native.Nat.{◌-◌}
 use lib.ListN.{get_or}
 use Rattle.lists.proofs.Padding.{Storing}
 use lib.Ieee.{nan}
@@ -8,6 +7,3 @@ use Rattle.lookup.proofs.gather.Given as goal
 
 abbrev pub invariant-loop-i : goal.invariant-loop-i
 invariant-loop-i l = Storing 0 (λ k. get_or l.cmap (lane_index (unit_or_zero (get_or l.fraction k nan))) 0) 16 l.lanes l.i l.result
-
-abbrev pub decreases-loop-i : goal.decreases-loop-i
-decreases-loop-i l = l.lanes - l.i

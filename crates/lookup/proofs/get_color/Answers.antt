@@ -30,11 +30,8 @@ bounds-cmap-index c = index-lt c.before.before.before
 pub returns : goal.returns
 unfolding of_bits
 returns c =
-    let nearest = c in
-    let unit = nearest in
-    let a = unit.args in
-    let e = nearest.nearest-index.ensures ∙ sym (plain-is unit.unit_or_zero.result) ∙ ap plain_index unit.unit_or_zero.ensures.0 in
+    let e = c.nearest-index.ensures ∙ sym (plain-is c.unit_or_zero.result) ∙ ap plain_index c.unit_or_zero.ensures.0 in
     c.pick.ensures
-    ∙ ap (cond c.in_unit.result _) unit.to_bits-transparent.ensures
-    ∙ ap₂ (λ b k. cond b (get_or a.cmap.now k 0) 0) c.in_unit.ensures e
-    ∙ plain_chosen a.fraction a.cmap.now
+    ∙ ap (cond c.in_unit.result _) c.to_bits-transparent.ensures
+    ∙ ap₂ (λ b k. cond b (get_or c.args.cmap.now k 0) 0) c.in_unit.ensures e
+    ∙ plain_chosen c.args.fraction c.args.cmap.now

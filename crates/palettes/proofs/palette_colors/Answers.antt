@@ -3,7 +3,6 @@ use Rattle.palettes.proofs.InTable.{size_le}
 use Rattle.lists.proofs.Padding.{tabulate-padded}
 use borrow.Author.Rules.{rules}
 use native.Mathlib.Omega.{arith}
-use Prim.Native.Nat.{◌-◌}
 use mathlib.Core.Path.{◌∙◌}
 use Rattle.lists.proofs.Filling.{filling_start, filling_turn, filled}
 use Rattle.palettes.specs.Palettes.{palette}

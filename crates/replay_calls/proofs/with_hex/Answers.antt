@@ -4,12 +4,12 @@ use lib.ListN.{set}
 use Rattle.replay_calls.specs.Rows.{with_hex}
 use Rattle.replay_calls.proofs.with_hex.Goals as goal
 
-pub returns-in-Made : goal.returns-in-Made
-returns-in-Made c =
+pub returns-in-Ok : goal.returns-in-Ok
+returns-in-Ok c =
     let a = c.args in
     ap₂ (λ r w. set r 130 w) c.with_answer-answered.ensures c.to_bits.ensures
-    ∙ sym (ap (λ x. with_hex x a.row) c.in-Made.is)
+    ∙ sym (ap (λ x. with_hex x a.row) c.in-Ok.is)
 
-pub returns-in-Refused : goal.returns-in-Refused
-returns-in-Refused c =
-    let a = c.args in c.with_answer.ensures ∙ sym (ap (λ x. with_hex x a.row) c.in-Refused.is)
+pub returns-in-Err : goal.returns-in-Err
+returns-in-Err c =
+    let a = c.args in c.with_answer.ensures ∙ sym (ap (λ x. with_hex x a.row) c.in-Err.is)

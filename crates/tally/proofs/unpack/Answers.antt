@@ -1,6 +1,5 @@
 -- `unpack` meets its contract: the invariant says that the totals left take the digits of the rest. Assumes nothing.
 use borrow.Author.Rules.{rules}
-use Prim.Native.Nat.{◌-◌}
 use mathlib.Core.Path.{◌≡◌}
 use native.Mathlib.Omega.{arith}
 use lib.ListN.{length}
@@ -12,20 +11,14 @@ loop-s-init c = unpacking_start c.args.totals c.args.number
 
 pub overflow_add-result : goal.overflow_add-result
 overflow_add-result c =
-    let l = c in
-    let a = l.args in
-    omega (arith, unpacking_kept a.totals a.number l.loop-s.invariant, l.requires l.loop-s.s (omega arith))
+    omega (arith, unpacking_kept c.args.totals c.args.number c.loop-s.invariant, c.requires c.loop-s.s (omega arith))
 
 pub loop-s-preserved : goal.loop-s-preserved
 loop-s-preserved c =
-    let l = c in
-    let a = l.args in
-    let long : length a.totals ≡ 7 = search rules in
-    unpacking_turn a.totals a.number l.loop-s.invariant (omega arith)
+    let long : length c.args.totals ≡ 7 = search rules in
+    unpacking_turn c.args.totals c.args.number c.loop-s.invariant (omega arith)
 
 pub returns : goal.returns
 returns c =
-    let l = c in
-    let a = l.args in
-    let long : length a.totals ≡ 7 = search rules in
-    unpacking_end a.totals a.number l.loop-s.invariant (omega arith)
+    let long : length c.args.totals ≡ 7 = search rules in
+    unpacking_end c.args.totals c.args.number c.loop-s.invariant (omega arith)

@@ -1,34 +1,21 @@
--- `Banded::with_manual_ranges` meets its contract. Assumes nothing.
-use mathlib.Core.Path.{sym, refl, ◌∙◌}
+-- `Banded::with_manual_ranges` meets its contract: as many ranges are there as are counted. Assumes nothing.
+use mathlib.Core.Path.{sym, ap, ◌∙◌}
 use native.Mathlib.Omega.{arith}
-use Rattle.banded_lists.proofs.Manual.{manual_few, manual_same}
-use Rattle.banded.proofs.Manual.{manual_refused, manual_made}
+use lib.ListN.{length-take}
+use Rattle.banded_lists.specs.ManualRanges.{manual_refusal}
+use Rattle.banded_lists.proofs.Manual.{manual_few}
+use Rattle.banded.proofs.Manual.{manual_made}
 use Rattle.banded.proofs.Banded.with_manual_ranges.Goals as goal
 
-pub returns-in-Refused : goal.returns-in-Refused
-returns-in-Refused c =
-    let s4 = c in
-    let s5 = s4 in
-    manual_refused s5.args.values s5.args.colors.now refl c.manual_refusal-answer.ensures c.in-Refused.is
-    c.default.ensures
-
-pub list_colors-requires : goal.list_colors-requires
-list_colors-requires c =
-    let s4 = c in
-    let s5 = s4 in
-    let e = sym c.manual_refusal-answer.ensures ∙ c.in_default.is in
-    let s = manual_same s5.args.values _ e in let h = manual_few s5.args.values _ e in omega arith
-
-pub range_bands-bands-requires : goal.range_bands-bands-requires
-range_bands-bands-requires c =
-    let s4 = c in
-    let s6 = s4 in
-    manual_few s6.args.values _ (sym c.manual_refusal-answer.ensures ∙ c.in_default.is)
+pub slice_bounds-range_bands-end : goal.slice_bounds-range_bands-end
+slice_bounds-range_bands-end c =
+    let few = manual_few c.args.values _ (sym c.manual_refusal.ensures ∙ c.in_ok-manual_refusal.was) in
+    omega (arith, length-take c.args.values.count c.args.values.ranges)
 
 pub returns : goal.returns
 returns c =
-    let s4 = c in
-    let s5 = s4 in
-    let s7 = s5 in
-    manual_made s7.args.values s7.args.colors.now refl s5.manual_refusal-answer.ensures c.in_default.is
-    c.list_colors.ensures c.range_bands-bands.ensures
+    let ok = sym c.manual_refusal.ensures ∙ c.in_ok-manual_refusal.was in
+    let few = manual_few c.args.values _ ok in
+    let made = manual_made c.args.values c.args.colors.now ok c.list_colors.ensures
+    (omega (arith, length-take c.args.values.count c.args.values.ranges)) c.range_bands-bands.ensures.0 c.range_bands-bands.ensures.1 in
+    sym made

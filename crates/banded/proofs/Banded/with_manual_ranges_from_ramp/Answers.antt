@@ -1,35 +1,23 @@
--- `Banded::with_manual_ranges_from_ramp` meets its contract. Assumes nothing.
-use mathlib.Core.Path.{sym, ◌∙◌}
+-- `Banded::with_manual_ranges_from_ramp` meets its contract: as many ranges are there as are counted. Assumes nothing.
+use mathlib.Core.Path.{sym, ap, ◌∙◌}
 use native.Mathlib.Omega.{arith}
+use lib.ListN.{length-take}
 use Rattle.colormap.specs.Positions.{ramp_colors}
+use Rattle.banded_lists.specs.ManualRanges.{manual_refusal}
 use Rattle.banded_lists.proofs.Manual.{manual_few}
-use Rattle.banded.proofs.Manual.{manual_refused, manual_made}
-use Rattle.banded.proofs.Equal.{ramp-count}
+use Rattle.banded.proofs.Equal.{ramp_count}
+use Rattle.banded.proofs.Manual.{manual_made}
 use Rattle.banded.proofs.Banded.with_manual_ranges_from_ramp.Goals as goal
 
-pub returns-in-Refused : goal.returns-in-Refused
-returns-in-Refused c =
-    manual_refused c.args.values
-    (ramp_colors c.args.values.count c.args.cmap.now)
-    (sym (ramp-count c.args.values.count c.args.cmap.now))
-    c.manual_refusal-answer.ensures c.in-Refused.is c.default.ensures
-
-pub ramp_colors-requires : goal.ramp_colors-requires
-ramp_colors-requires c =
-    let h = manual_few c.args.values _
-    (sym c.manual_refusal-answer.ensures ∙ c.in_default.is) in omega arith
-
-pub range_bands-bands-requires : goal.range_bands-bands-requires
-range_bands-bands-requires c =
-    let s4 = c in
-    let s5 = s4 in
-    manual_few s5.args.values _ (sym c.manual_refusal-answer.ensures ∙ c.in_default.is)
+pub slice_bounds-range_bands-end : goal.slice_bounds-range_bands-end
+slice_bounds-range_bands-end c =
+    let few = manual_few c.args.values _ (sym c.manual_refusal.ensures ∙ c.in_ok-manual_refusal.was) in
+    omega (arith, length-take c.args.values.count c.args.values.ranges)
 
 pub returns : goal.returns
 returns c =
-    let s4 = c in
-    let s5 = s4 in
-    let s6 = s5 in
-    manual_made s6.args.values (ramp_colors s6.args.values.count s6.args.cmap.now)
-    (sym (ramp-count s6.args.values.count s6.args.cmap.now)) s5.manual_refusal-answer.ensures c.in_default.is
-    c.ramp_colors.ensures c.range_bands-bands.ensures
+    let ok = sym c.manual_refusal.ensures ∙ c.in_ok-manual_refusal.was in
+    let few = manual_few c.args.values _ ok in
+    let made = manual_made c.args.values (ramp_colors c.args.values.count c.args.cmap.now) (ap (manual_refusal c.args.values) (ramp_count c.args.values.count c.args.cmap.now) ∙ ok) c.ramp_colors.ensures
+    (omega (arith, length-take c.args.values.count c.args.values.ranges)) c.range_bands-bands.ensures.0 c.range_bands-bands.ensures.1 in
+    sym made

@@ -4,14 +4,4 @@ use Rattle.banded_lanes.proofs.edges.lane_edge_color.Goals as goal
 
 pub returns : goal.returns
 unfolding edged
-returns c =
-    let s4 = c in
-    let s6 = s4 in
-    simp (
-      c.pick.ensures,
-      c.is_within-2.ensures,
-      c.pick-z.ensures,
-      c.is_within.ensures,
-      c.pick-y.ensures,
-      s6.pick-x.ensures,
-    )
+returns c = simp (c.pick.ensures, c.is_within-2.ensures, c.pick-z.ensures, c.is_within.ensures, c.pick-y.ensures, c.pick-x.ensures)

@@ -5,7 +5,6 @@ use native.Mathlib.Omega.{arith}
 use lib.ListN.{get_or}
 use lib.Ieee.{nan, le}
 use Rattle.lists.proofs.Padding.{storing_start, storing_turn}
-use Rattle.lists.proofs.LanesOf.{lanes-stored}
 use Rattle.banded_search.proofs.Counting.{flag_is, moved_fits}
 use Rattle.banded_search.proofs.indices.advance_indices.Goals as goal
 
@@ -14,16 +13,11 @@ loop-i-init c = storing_start
 
 pub overflow_add-result : goal.overflow_add-result
 overflow_add-result c =
-    let l = c in
-    let a = l.args in
-    record { fits = moved_fits (get_or a.indices l.loop-i.i 0) (le a.start (get_or a.value l.loop-i.i nan)) (l.requires.1 l.loop-i.i (omega arith)) }
+    let i = c.loop-i.i in
+    record { fits = moved_fits (get_or c.args.indices i 0) (le c.args.start (get_or c.args.value i nan)) (c.requires.1 i (omega arith)) }
 
 pub loop-i-preserved : goal.loop-i-preserved
 loop-i-preserved c =
-    let l = c in
-    let a = l.args in
-    storing_turn l.loop-i.invariant (omega arith) (omega arith)
-    (ap (λ (n : ℕ). get_or a.indices l.loop-i.i 0 + n) (flag_is (le a.start (get_or a.value l.loop-i.i nan))))
-
-pub returns : goal.returns
-returns c = lanes-stored c.loop-i.invariant (omega arith)
+    let i = c.loop-i.i in
+    storing_turn c.loop-i.invariant (omega arith) (omega arith)
+    (ap (λ (n : ℕ). get_or c.args.indices i 0 + n) (flag_is (le c.args.start (get_or c.args.value i nan))))

@@ -1,4 +1,4 @@
-use Prim.Native.Nat.{◌+◌, ◌-◌}
+use Prim.Native.Nat.{◌+◌}
 use mathlib.Core.Bool.{cond}
 use lib.ListN.{get_or}
 use lib.Ieee.{nan, le}
@@ -7,6 +7,3 @@ use Rattle.banded_search.proofs.indices.advance_indices.Given as goal
 
 abbrev pub invariant-loop-i : goal.invariant-loop-i
 invariant-loop-i l = Storing 0 (λ k. get_or l.indices k 0 + cond (le l.start (get_or l.value k nan)) 1 0) 16 l.lanes l.i l.result
-
-abbrev pub decreases-loop-i : goal.decreases-loop-i
-decreases-loop-i l = l.lanes - l.i

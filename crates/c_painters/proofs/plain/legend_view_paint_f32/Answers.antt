@@ -1,15 +1,6 @@
 -- `plain::legend_view_paint_f32` meets its contract. Assumes nothing.
-use Rattle.c_painters.proofs.Calling.{plain_arguments, plain-painted}
+use Rattle.c_painters.proofs.Calling.{plain_arguments}
 use Rattle.c_painters.proofs.plain.legend_view_paint_f32.Goals as goal
 
-pub returns-in-Refused : goal.returns-in-Refused
-returns-in-Refused c = plain_arguments _ _ c.use_refusal-first.ensures c.in-Refused.is c.to_c.ensures
-
-pub returns : goal.returns
-returns c =
-    let painted = c in
-    let made = painted in
-    let lent = made in
-    let told = lent in
-    plain-painted _ _ _ _ told.use_refusal-first.ensures told.in_default.is lent.view_from_c.ensures
-    made.nodata_if.ensures c.to_c-2.ensures painted.apply_to_data_scalar.ensures
+pub returns-in-Err : goal.returns-in-Err
+returns-in-Err c = plain_arguments _ _ c.use_refusal.ensures c.in-Err.is c.to_c-in-Err.ensures

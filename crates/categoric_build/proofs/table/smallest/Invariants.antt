@@ -1,12 +1,7 @@
 use mathlib.Core.Path.{◌≡◌}
-use Prim.Native.Nat.{◌-◌, ◌≤◌}
-use lib.ListN.{take}
 use lib.Signed.{lt_z}
 use Rattle.categoric_build.specs.Table.{foremost}
 use Rattle.categoric_build.proofs.table.smallest.Given as goal
 
-abbrev pub invariant-loop-i : goal.invariant-loop-i
-invariant-loop-i l = (l.i ≤ l.count) × (l.least ≡ foremost lt_z l.i (take l.count l.keys))
-
-abbrev pub decreases-loop-i : goal.decreases-loop-i
-decreases-loop-i l = l.count - l.i
+abbrev pub invariant-loop-key : goal.invariant-loop-key
+invariant-loop-key l = l.least ≡ foremost lt_z l.key-index l.keys

@@ -1,26 +1,19 @@
--- `categoric_paint::table` meets its contract. Assumes nothing.
+-- `paint_by_table` meets its contract. Assumes nothing.
 use borrow.Author.Rules.{rules}
 use native.Mathlib.Omega.{arith}
-use mathlib.Core.Path.{refl, ◌∙◌}
+use mathlib.Core.Path.{◌∙◌}
+use lib.Dec.{lit<}
 use lib.ListN.{length-map}
-use Rattle.painting.proofs.Steps.{chunks_start, chunk_turn, chunks-end}
+use Rattle.painting.proofs.Steps.{chunks_start}
 use Rattle.painting.proofs.Splitting.{plain_in_blocks}
+use Rattle.categoric_paint.proofs.Chunks.{counted_turn, counted-end}
 use Rattle.categoric_paint.proofs.table.paint_by_table.Goals as goal
 
-pub loop-base-init : goal.loop-base-init
-loop-base-init c = (refl, chunks_start (search rules))
+pub loop-k-init : goal.loop-k-init
+loop-k-init c = chunks_start (search rules)
 
-pub block-requires : goal.block-requires
-block-requires c = (search rules, omega arith, omega arith)
-
-pub loop-base-preserved : goal.loop-base-preserved
-loop-base-preserved c =
-    let st4 = c in
-    let s5 = st4 in
-    (refl, chunk_turn s5.loop-base.invariant.1 (omega arith) (omega arith) (λ xs. length-map xs _) c.block.ensures)
+pub loop-k-preserved : goal.loop-k-preserved
+loop-k-preserved c = counted_turn c.loop-k.invariant (lit< tt) (omega arith) (λ xs. length-map xs _) c.block.ensures
 
 pub returns : goal.returns
-returns c =
-    let st4 = c in
-    let s5 = st4 in
-    c.rest.ensures ∙ chunks-end s5.loop-base.invariant.1 (omega arith) ∙ plain_in_blocks 16 _ _
+returns c = c.rest.ensures ∙ counted-end c.loop-k.invariant (lit< tt) (omega arith) ∙ plain_in_blocks 16 _ _

@@ -1,12 +1,8 @@
-use Prim.Native.Nat.{◌-◌}
-use mathlib.Core.Path.{◌≡◌}
-use lib.ListN.{length}
+use Prim.Native.Nat.{◌*◌}
 use Rattle.painting.proofs.Steps.{InChunks}
 use Rattle.categoric_paint.specs.forms.TableSamples.{table_sample, table_chunk}
 use Rattle.categoric_paint.proofs.table.paint_by_table_simd.Given as goal
 
-abbrev pub invariant-loop-base : goal.invariant-loop-base
-invariant-loop-base l = (l.n ≡ length l.src) × InChunks l.l (table_chunk l.lookup l.size l.p) (table_sample l.lookup l.size l.p) l.src l.base l.out
-
-abbrev pub decreases-loop-base : goal.decreases-loop-base
-decreases-loop-base l = l.n - l.base
+abbrev pub invariant-loop-k : goal.invariant-loop-k
+invariant-loop-k l =
+    InChunks l.l (table_chunk l.table.lookup.now l.table.size l.p) (table_sample l.table.lookup.now l.table.size l.p) l.src (l.l * l.k) l.out

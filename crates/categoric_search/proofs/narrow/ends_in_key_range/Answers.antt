@@ -1,4 +1,5 @@
 -- `ends_in_key_range` meets its contract. Assumes nothing.
+use borrow.Author.Rules.{rules}
 use mathlib.Core.Path.{sym, ap, ap₂, ◌∙◌}
 use mathlib.Core.Bool.{Bool, ◌&&◌}
 use mir.Syntax.{w64}
@@ -7,16 +8,13 @@ use Rattle.categoric_search.specs.forms.Searchable.{in_key_range, ends_in_key_ra
 use Rattle.categoric_search.proofs.NearKeys.{ends_of}
 use Rattle.categoric_search.proofs.narrow.ends_in_key_range.Goals as goal
 
-pub returns-then-count-eq0 : goal.returns-then-count-eq0
+pub returns-then-keys-eq0 : goal.returns-then-keys-eq0
 unfolding ends_in_key_range
-returns-then-count-eq0 c = sym (ap (ends_in_key_range c.args.keys.now) c.if-count-eq0.true)
+returns-then-keys-eq0 c = sym (ap (ends_in_key_range c.args.keys.keys.now) c.if-keys-eq0.true)
 
 pub returns : goal.returns
 returns c =
-    let s4 = c in
-    let s5 = s4 in
-    let a = s5.args in
     ap₂ (λ (x y : Bool). x && y)
-    (c.in_key_range.ensures ∙ ap in_key_range (to_z-of_z w64 _ (record { sfits = c.in_key_range-arg-1.given })))
-    (c.in_key_range-2.ensures ∙ ap in_key_range (to_z-of_z w64 _ (record { sfits = c.in_key_range-arg-2-1.given }))) ∙ ends_of a.keys.now a.count
-    c.if-count-eq0.false
+    (c.in_key_range.ensures ∙ ap in_key_range (to_z-of_z w64 _ (search rules)))
+    (c.in_key_range-2.ensures ∙ ap in_key_range (to_z-of_z w64 _ (search rules)))
+    ∙ ends_of c.args.keys.keys.now c.args.keys.count c.if-keys-eq0.false

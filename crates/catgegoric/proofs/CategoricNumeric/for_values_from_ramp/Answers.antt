@@ -1,54 +1,36 @@
--- `CategoricNumeric::for_values_from_ramp` meets its contract: past the checks the counted places hold the values and their colours. Assumes nothing.
-use mathlib.Core.Path.{sym, refl, ap, ◌∙◌}
-use native.Mathlib.Omega.{arith}
-use lib.IntN.{pos}
-use lib.ListN.{length}
+-- `CategoricNumeric::for_values_from_ramp` meets its contract: past the checks the record is made of the values and their colours. Assumes nothing.
+use Rattle.std.proofs.Common.{sym, refl, ◌∙◌, ◌≡◌, ◌≤◌, length, take, arith}
 use Rattle.colormap.specs.Positions.{ramp_colors}
-use Rattle.lists.proofs.Padding.{length-padded}
 use Rattle.catgegoric.specs.Made.{many_refusal}
-use Rattle.categoric_lists.specs.Keys.{keys_refusal}
-use Rattle.catgegoric.proofs.Making.{many_checks, few, stopped, built, refused, counted_list, length-ramp}
+use Rattle.catgegoric.proofs.Making.{many_checks, few, built, counted_list, counted_length, length-ramp}
 use Rattle.catgegoric.proofs.CategoricNumeric.for_values_from_ramp.Goals as goal
-
-pub returns-in-Refused : goal.returns-in-Refused
-returns-in-Refused c =
-    let s = c in
-    let v = s.args.values.now in
-    refused v (ramp_colors (length v) s.args.cmap.now)
-    (stopped (many_refusal (length v)) (many_checks (length v)) (keys_refusal v) c.many_refusal-answer.ensures
-    c.in-Refused.is) c.in-Refused.is c.refused.ensures
-
-pub list_keys-keys-requires : goal.list_keys-keys-requires
-list_keys-keys-requires c =
-    few (length c.args.values.now) (sym c.many_refusal-answer.ensures ∙ c.in_default.is)
+use Rattle.catgegoric.proofs.CategoricNumeric.for_values_from_ramp.Goals.{After-ramp_colors-words}
 
 pub ramp_colors-words-requires : goal.ramp_colors-words-requires
-ramp_colors-words-requires c =
-    few (length c.args.values.now)
-    (sym c.many_refusal-answer.ensures ∙ c.in_default.is)
+ramp_colors-words-requires c = few (length c.args.values.now) (sym c.many_refusal.ensures ∙ c.in_ok-many_refusal.was)
+
+words_few : (c : After-ramp_colors-words) → length c.args.values.now ≤ 256
+words_few c = few (length c.args.values.now) (sym c.many_refusal.ensures ∙ c.in_ok-many_refusal.was)
+
+words_counted : (c : After-ramp_colors-words) → (length c.args.values.now ≤ length c.ramp_colors-words.result)
+    × (length c.args.values.now ≡ length (take (length c.args.values.now) c.ramp_colors-words.result))
+words_counted c =
+    let n = length c.args.values.now in
+    counted_length 0 256 n (ramp_colors n c.args.cmap.now) (sym (length-ramp n c.args.cmap.now)) (words_few c) c.ramp_colors-words.ensures
+
+pub slice_bounds-words-end : goal.slice_bounds-words-end
+slice_bounds-words-end c = (words_counted c).0
+
+pub slice_bounds-create-end : goal.slice_bounds-create-end
+slice_bounds-create-end c = (words_counted c.before).1
 
 pub create-requires : goal.create-requires
-create-requires c =
-    let s4 = c in
-    let s6 = s4 in
-    let s = s6 in
-    let v = s.args.values.now in
-    let h = few (length v) (sym s6.many_refusal-answer.ensures ∙ c.in_default.is) in (
-      h,
-      ap length c.list_keys-keys.ensures ∙ length-padded (pos 0) 256 v h,
-      ap length c.ramp_colors-words.ensures
-          ∙ length-padded 0 256 (ramp_colors (length v) s.args.cmap.now) (omega (arith, h, length-ramp (length v) s.args.cmap.now)),
-    )
+create-requires c = (words_few c.before, omega (arith, (words_counted c.before).1))
 
 pub returns : goal.returns
 returns c =
-    let s4 = c in
-    let s5 = s4 in
-    let s7 = s5 in
-    let s = s7 in
-    let v = s.args.values.now in
-    let w = ramp_colors (length v) s.args.cmap.now in
-    built (many_refusal (length v)) (many_checks (length v)) (length v) v w c.list_keys-keys.result
-    c.ramp_colors-words.result (sym s7.many_refusal-answer.ensures ∙ s5.in_default.is)
-    (counted_list (pos 0) 256 (length v) v refl c.list_keys-keys.ensures)
-    (counted_list 0 256 (length v) w (sym (length-ramp (length v) s.args.cmap.now)) c.ramp_colors-words.ensures) c.create.ensures
+    let v = c.args.values.now in
+    let w = ramp_colors (length v) c.args.cmap.now in
+    let clear = sym c.many_refusal.ensures ∙ c.in_ok-many_refusal.was in
+    built (many_refusal (length v)) (many_checks (length v)) v w clear refl
+    (counted_list 0 256 (length v) w (sym (length-ramp (length v) c.args.cmap.now)) c.ramp_colors-words.ensures) c.create.ensures

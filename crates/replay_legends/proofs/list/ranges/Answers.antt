@@ -1,16 +1,9 @@
--- `ranges` meets its contract. Assumes nothing.
-use native.Mathlib.Omega.{arith}
-use Rattle.lists.proofs.Padding.{storing_start, storing_turn, storing_end}
-use lib.Ieee.{of_bits}
-use Rattle.replay_legends.proofs.Asking.{ranges_are}
+-- The array begins as zeros: their bits are those of 0.
+use Rattle.std.proofs.Common.{sym}
+use Rattle.std.specs.Float.Ieee.{of_bits}
+use Rattle.replay_rows.proofs.Stored.{stored_none}
 use Rattle.replay_legends.proofs.list.ranges.Goals as goal
 
 pub loop-i-init : goal.loop-i-init
 unfolding of_bits
-loop-i-init c = storing_start
-
-pub loop-i-preserved : goal.loop-i-preserved
-loop-i-preserved c = storing_turn c.loop-i.invariant (omega arith) (omega arith) c.range.ensures
-
-pub returns : goal.returns
-returns c = ranges_are c.args.row.now (storing_end c.loop-i.invariant (omega arith)) c.at_most.ensures
+loop-i-init c = sym (stored_none _ 64 _)

@@ -3,5 +3,5 @@ use mathlib.Core.Path.{sym, ap, ◌∙◌}
 use Rattle.replay_paintings.specs.Paintings.{color_or_number}
 use Rattle.replay_paintings.proofs.paint.color_or_number.Goals as goal
 
-pub returns-in-Refused : goal.returns-in-Refused
-returns-in-Refused c = c.number.ensures ∙ sym (ap color_or_number c.in-Refused.is)
+pub returns-in-Err : goal.returns-in-Err
+returns-in-Err c = c.number.ensures ∙ sym (ap color_or_number c.in-Err.is)

@@ -20,6 +20,5 @@ lanes-lanes_16-requires c = at_most_40 (get_or c.args.row.now 9 0) c.at_most-cou
 
 pub returns : goal.returns
 returns c =
-    let a = c.args in
-    all_are a.legend a.row.now c.view_of-view.ensures c.at_most-count.ensures c.nodata-none.ensures c.floats-samples.ensures
+    all_are c.args.row.now c.view_of-view.ensures c.at_most-count.ensures c.nodata-none.ensures c.floats-samples.ensures
     c.values-values.ensures c.plain-plain.ensures c.lanes-lanes_4.ensures c.lanes-lanes_8.ensures c.lanes-lanes_16.ensures

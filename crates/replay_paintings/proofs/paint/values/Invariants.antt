@@ -1,7 +1,7 @@
-use Prim.Native.Nat.{◌-◌}
-use lib.Ieee.{nan}
-use lib.ListN.{get_or}
-use Rattle.lists.proofs.Padding.{Storing}
+use Rattle.std.proofs.Common.{◌≡◌, get_or}
+use Rattle.std.specs.Float.{nan}
+use Rattle.lists.specs.Padded.{padded}
+use Rattle.lists.specs.Tabulate.{tabulate}
 use Rattle.legend_view.specs.Borrowed.{borrowed_legend}
 use Rattle.legend_pixel.specs.Values.{color_for_value}
 use Rattle.replay_paintings.specs.Paintings.{color_or_number}
@@ -9,7 +9,4 @@ use Rattle.replay_paintings.proofs.paint.values.Given as goal
 
 abbrev pub invariant-loop-i : goal.invariant-loop-i
 invariant-loop-i l =
-    Storing 0 (λ k. color_or_number (color_for_value (borrowed_legend l.view l.cmap l.keys l.colors l.lookup) l.nodata (get_or l.samples k nan))) 40 l.count l.i l.words
-
-abbrev pub decreases-loop-i : goal.decreases-loop-i
-decreases-loop-i l = l.count - l.i
+    l.words ≡ padded 0 40 (tabulate l.i (λ k. color_or_number (color_for_value (borrowed_legend l.view) l.nodata (get_or l.samples k nan))))

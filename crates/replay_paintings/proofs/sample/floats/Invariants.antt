@@ -1,13 +1,10 @@
-use mathlib.Core.Path.{◌≡◌}
-use Prim.Native.Nat.{◌+◌, ◌-◌}
-use lib.Ieee.{nan}
-use lib.ListN.{get_or}
-use Rattle.lists.proofs.Filling.{Filling}
+use Rattle.std.proofs.Common.{◌≡◌}
+use Rattle.std.specs.Float.{binary32}
+use Rattle.std.specs.Float.Ieee.{of_bits}
+use Rattle.lists.specs.Padded.{padded}
+use Rattle.replay_rows.specs.Parts.{values_at}
 use Rattle.replay_paintings.specs.Samples.{sample_of, sample_type}
 use Rattle.replay_paintings.proofs.sample.floats.Given as goal
 
 abbrev pub invariant-loop-i : goal.invariant-loop-i
-invariant-loop-i l = (l.number ≡ sample_type l.row) × Filling nan (λ k. sample_of l.number (get_or l.row (80 + k) 0)) 40 40 l.i l.floats
-
-abbrev pub decreases-loop-i : goal.decreases-loop-i
-decreases-loop-i l = 40 - l.i
+invariant-loop-i l = l.floats ≡ padded (of_bits binary32 0) 40 (values_at (sample_of (sample_type l.row)) 80 l.i l.row)

@@ -1,10 +1,7 @@
-use Prim.Native.Nat.{◌+◌, ◌-◌, ◌%◌}
-use lib.ListN.{get_or}
-use Rattle.lists.proofs.Filling.{Filling}
+use Rattle.std.proofs.Common.{◌≡◌, ◌%◌}
+use Rattle.lists.specs.Padded.{padded}
+use Rattle.replay_rows.specs.Parts.{values_at}
 use Rattle.replay_rows.proofs.part.bytes.Given as goal
 
 abbrev pub invariant-loop-i : goal.invariant-loop-i
-invariant-loop-i l = Filling 0 (λ k. get_or l.row (l.from + k) 0 % 256) 40 40 l.i l.bytes
-
-abbrev pub decreases-loop-i : goal.decreases-loop-i
-decreases-loop-i l = 40 - l.i
+invariant-loop-i l = l.bytes ≡ padded 0 40 (values_at (λ w. w % 256) l.from l.i l.row)

@@ -1,12 +1,8 @@
-use Prim.Native.Nat.{◌+◌, ◌-◌}
-use lib.ListN.{get_or}
-use lib.IntN.{pos}
-use Rattle.lists.proofs.Filling.{Filling}
+use Rattle.std.proofs.Common.{◌≡◌, pos}
+use Rattle.lists.specs.Padded.{padded}
 use Rattle.words.specs.Values.{whole_of}
+use Rattle.replay_rows.specs.Parts.{values_at}
 use Rattle.replay_rows.proofs.part.keys.Given as goal
 
 abbrev pub invariant-loop-i : goal.invariant-loop-i
-invariant-loop-i l = Filling (pos 0) (λ k. whole_of (get_or l.row (32 + k) 0)) 16 16 l.i l.keys
-
-abbrev pub decreases-loop-i : goal.decreases-loop-i
-decreases-loop-i l = 16 - l.i
+invariant-loop-i l = l.keys ≡ padded (pos 0) 16 (values_at whole_of 32 l.i l.row)

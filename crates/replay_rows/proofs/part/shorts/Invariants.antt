@@ -1,12 +1,8 @@
-use Prim.Native.Nat.{◌+◌, ◌-◌}
-use lib.ListN.{get_or}
-use lib.IntN.{pos}
-use Rattle.lists.proofs.Filling.{Filling}
+use Rattle.std.proofs.Common.{◌≡◌, pos}
+use Rattle.lists.specs.Padded.{padded}
 use Rattle.words.specs.Values.{short_of}
+use Rattle.replay_rows.specs.Parts.{values_at}
 use Rattle.replay_rows.proofs.part.shorts.Given as goal
 
 abbrev pub invariant-loop-i : goal.invariant-loop-i
-invariant-loop-i l = Filling (pos 0) (λ k. short_of (get_or l.row (80 + k) 0)) 40 40 l.i l.shorts
-
-abbrev pub decreases-loop-i : goal.decreases-loop-i
-decreases-loop-i l = 40 - l.i
+invariant-loop-i l = l.shorts ≡ padded (pos 0) 40 (values_at short_of 80 l.i l.row)

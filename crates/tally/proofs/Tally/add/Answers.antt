@@ -1,6 +1,5 @@
 -- `add` meets its contract: the invariant says that what is left of the totals goes to the counts so far. Assumes nothing.
 use borrow.Author.Rules.{rules}
-use Prim.Native.Nat.{◌-◌}
 use mathlib.Core.Path.{◌≡◌}
 use native.Mathlib.Omega.{arith}
 use lib.ListN.{length, get_or}
@@ -18,33 +17,21 @@ offset_bounds-counts-rule c = omega (arith, bounds-counts-rule c)
 
 pub overflow_add-counts : goal.overflow_add-counts
 overflow_add-counts c =
-    let l = c in
-    let a = l.args in
-    let long : length a.self.counts ≡ 12 = search rules in
-    let all : length a.totals ≡ 7 = search rules in
-    let rule = get_or a.rules l.loop-s.s 0 in
+    let long : length c.args.self.counts ≡ 12 = search rules in
+    let all : length c.args.totals ≡ 7 = search rules in
+    let rule = get_or c.args.rules c.loop-s.s 0 in
     record {
-      fits = spreading_fits a.self.counts a.rules a.totals l.loop-s.invariant (omega arith) rule
+      fits = spreading_fits c.args.self.counts c.args.rules c.args.totals c.loop-s.invariant (omega arith) rule
           (omega (arith, c.requires.0 c.loop-s.s (omega arith)));
     }
 
 pub loop-s-preserved : goal.loop-s-preserved
 loop-s-preserved c =
-    let l = c in
-    let a = l.args in
-    let each : length a.rules ≡ 7 = search rules in
-    let all : length a.totals ≡ 7 = search rules in
-    spreading_turn a.self.counts a.rules a.totals l.loop-s.invariant (omega arith) (omega arith)
+    let each : length c.args.rules ≡ 7 = search rules in
+    let all : length c.args.totals ≡ 7 = search rules in
+    spreading_turn c.args.self.counts c.args.rules c.args.totals c.loop-s.invariant (omega arith) (omega arith)
 
 pub returns : goal.returns
 returns c =
-    let l = c in
-    let a = l.args in
-    let each : length a.rules ≡ 7 = search rules in
-    spreading_end a.self.counts a.rules a.totals l.loop-s.invariant (omega arith)
-
-pub offset_bounds-counts-rule-in-loop-s : goal.offset_bounds-counts-rule-in-loop-s
-offset_bounds-counts-rule-in-loop-s c = omega (arith, c.requires.0 c.loop-s.s (omega arith))
-
-pub bounds-counts-rule-in-loop-s : goal.bounds-counts-rule-in-loop-s
-bounds-counts-rule-in-loop-s c = let l = c in omega (arith, l.requires.0 l.loop-s.s (omega arith))
+    let each : length c.args.rules ≡ 7 = search rules in
+    spreading_end c.args.self.counts c.args.rules c.args.totals c.loop-s.invariant (omega arith)

@@ -1,2 +1,0 @@
--- The laws that other crates cite.
-pub mod Whole

@@ -1,7 +1,0 @@
--- `colors_for_numeric_values` meets its contract, phase by phase in each lane. Assumes nothing.
-use Rattle.linear_rule.proofs.Choosing.{plain-lanes}
-use Rattle.linear_rule.proofs.colors_for_numeric_values.Goals as goal
-
-pub returns : goal.returns
-returns c =
-    let s = c in plain-lanes _ _ _ _ s.args.value c.in_ranges.ensures s.fractions-fraction.ensures c.get_colors-color.ensures
