@@ -27,7 +27,7 @@ impl LegendBand {
 // ---- columns
 
 // The starts of the bands: the painters lend numbers to their loops, once per painting. Loops: by `bands.map(..)` a painting of 64 samples takes up to
-// 2.4 times as long.
+// 2.5 times as long.
 pub fn starts_of(bands: [LegendBand; 64]) -> [f32; 64]
     ensures { result ≡ map (λ (b : LegendBand). b.start) bands }
 {

@@ -55,7 +55,8 @@ pub fn legend_record_write_card(
 #[tactic(auto, unfolding(crate::specs::Cards::record_refusal))]
 fn written(legend: LegendRecord, title: &[u8], buffer: &mut [u8]) -> Result<usize, Refusal>
     ensures answered { result ≡ made_unless (record_refusal title.now legend buffer.old) (length (card_of title.now (legend_from_c legend))) }
-    ensures output { buffer.new ≡ if_done (record_refusal title.now legend buffer.old) (overwritten 0 (card_of title.now (legend_from_c legend)) buffer.old) buffer.old }
+    ensures output { buffer.new ≡ if_done (record_refusal title.now legend buffer.old)
+        (overwritten 0 (card_of title.now (legend_from_c legend)) buffer.old) buffer.old }
 {
     refusals::legend_refusal(legend.settings, legend.kind)?;
     card_write::write(record::legend_from_c(legend), title, buffer)

@@ -6,7 +6,8 @@ pub mod record;
 pub mod reply;
 
 ghost use Rattle.std.specs.Prelude.{◌≡◌};
-ghost use Rattle.replay_calls.specs.Rows.{with_palette, palette_row, with_hex, hex_row, lookup_row, whole_low, whole_high, whole_there, truncated_by, truncated_row};
+ghost use Rattle.replay_calls.specs.Rows.{with_palette, palette_row, with_hex, hex_row, lookup_row};
+ghost use Rattle.replay_calls.specs.Rows.{whole_low, whole_high, whole_there, truncated_by, truncated_row};
 
 use color::Color;
 use colormap::ProcessedColorMap;
