@@ -150,11 +150,30 @@ fn paint_categoric(
 // ---- a legend of any kind
 
 // Sample by sample, with an output of the raster's length.
+#[tactic(auto, unfolding(legend::specs::Painters::painter))]
 pub fn paint(view: View<'_>, nodata: Option<f32>, src: &[f32], out: &mut [u32])
     requires { (stored_refusal (borrowed_legend view) ≡ Done) × (length out.old ≡ length src.now) }
     ensures { out.new ≡ painted (painter (borrowed_legend view.entry) nodata) 0 src.now }
 {
-    paint_simd(view, nodata, 0, src, out);
+    let config = view.mapping_config;
+    match view.kind {
+        LegendKind::Linear => {
+            paint_linear(view.start, view.end, view.cmap, config, nodata, 0, src, out)
+        }
+        LegendKind::Banded => paint_banded(*view.banded, config, nodata, 0, src, out),
+        LegendKind::CategoricNumeric => {
+            let keys = Keys {
+                keys: view.keys,
+                colors: view.colors,
+                count: view.count,
+            };
+            let table = Table {
+                lookup: view.lookup,
+                size: view.lookup_count,
+            };
+            paint_categoric(keys, table, config, nodata, 0, src, out)
+        }
+    }
 }
 
 // Chunks of l samples by the lane rule, then the rest plainly; a legend without a rule for lanes plainly.
