@@ -109,20 +109,23 @@ fn head<'a>(source: &'a str, mark: &str) -> Vec<&'a str> {
 pub fn functions(source: &str) -> impl Iterator<Item = (String, Vec<Cited>)> + '_ {
     let definitions = definitions(source);
     let mut owner = String::new();
+    let mut of_trait = false;
     let mut lines = source.lines().peekable();
     std::iter::from_fn(move || {
         loop {
             let line = lines.next()?;
-            if let Some(name) = line.strip_prefix("impl ") {
-                owner = format!("{}::", name.trim_end_matches(" {"));
+            if let Some((kind, name)) = owner_of(line) {
+                owner = format!("{name}::");
+                of_trait = kind == Owner::Trait;
             } else if line == "}" {
                 owner.clear();
+                of_trait = false;
             }
-            let Some(name) = function(line) else { continue };
+            let Some(name) = function(line, of_trait) else { continue };
             let mut contract = String::new();
-            // A head with no clause ends on its last line, one with clauses on a line of its own.
+            // A head with no clause ends on its last line, one with clauses on a line of its own, a trait's with its last clause.
             let (mut clauses, mut ensures) = (false, false);
-            let mut ended = line.ends_with(['{', '}']);
+            let mut ended = line.ends_with(['{', '}', ';']);
             while let Some(line) = lines.next_if(|_| !ended) {
                 let clause = line.trim_start();
                 if clause == "{" || !clauses && clause.ends_with(['{', '}']) && !begins(clause) {
@@ -134,6 +137,7 @@ pub fn functions(source: &str) -> impl Iterator<Item = (String, Vec<Cited>)> + '
                 if ensures {
                     contract += line;
                 }
+                ended = of_trait && clause.ends_with("};");
             }
             let words: Vec<&str> = contract.split(|c: char| !c.is_alphanumeric() && c != '_' && c != '-').collect();
             let cited = definitions.iter().filter(|(name, _)| words.contains(&name.as_str())).cloned().collect();
@@ -147,8 +151,34 @@ fn begins(line: &str) -> bool {
     line.starts_with("requires ") || line.starts_with("ensures ")
 }
 
-fn function(line: &str) -> Option<&str> {
-    let rest = line.trim_start().strip_prefix("pub ")?;
+/// What a function's owner is.
+#[derive(PartialEq, Eq)]
+enum Owner {
+    Type,
+    Trait,
+}
+
+/// The type of an `impl` block or the public trait that begins with a line, without its parameters. The functions of a trait's `impl` are the trait's.
+fn owner_of(line: &str) -> Option<(Owner, &str)> {
+    let (kind, rest) = match line.strip_prefix("pub trait ") {
+        Some(rest) => (Owner::Trait, rest),
+        None => (Owner::Type, line.strip_prefix("impl")?),
+    };
+    let rest = match rest.strip_prefix('<') {
+        Some(parameters) => parameters.split_once("> ")?.1,
+        None => rest.trim_start(),
+    };
+    Some((kind, rest.split([' ', '<', ':']).next()?))
+}
+
+/// The name of a function that is public, by itself or as its trait's.
+fn function(line: &str, of_trait: bool) -> Option<&str> {
+    let rest = line.trim_start();
+    let rest = match rest.strip_prefix("pub ") {
+        Some(public) => public,
+        None if of_trait => rest,
+        None => return None,
+    };
     let rest = rest.strip_prefix("extern \"C\" ").unwrap_or(rest).strip_prefix("fn ")?;
     rest.split(['(', '<']).next()
 }
@@ -157,7 +187,7 @@ fn function(line: &str) -> Option<&str> {
 fn definitions(source: &str) -> Vec<Cited> {
     let mut definitions = Vec::new();
     for line in source.lines() {
-        let Some(path) = line.strip_prefix("ghost use Rattle.") else { continue };
+        let Some(path) = line.trim_start().strip_prefix("ghost use Rattle.") else { continue };
         let Some((file, list)) = path.trim_end_matches(';').split_once(".{") else { continue };
         if file.starts_with("std.") || file.contains(".declared.") || !file.contains(".specs.") {
             continue;

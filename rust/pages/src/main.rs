@@ -78,7 +78,10 @@ mod tests {
         let source = "// Halves.\nghost use Rattle.std.specs.Prelude.{length};\nghost use Rattle.half.specs.Half.{half, whole};\n\n\
                       pub fn bare(\n    x: u32,\n) -> u32 {\n    x\n}\n\npub fn short() -> u32 {\n    1\n}\n\nimpl Two {\n    \
                       pub fn halved(self) -> u32\n        requires { whole self }\n        ensures { result\n            ≡ half (length self) }\n    {\n        \
-                      1\n    }\n}\n\nfn own() {}\n\npub fn quiet() {}\n";
+                      1\n    }\n}\n\nfn own() {}\n\npub fn quiet() {}\n\npub trait Part: Copy {\n    fn part(self) -> u32\n        ensures { \
+                      result ≡ half (as_number self) };\n\n    fn other(self) -> u32;\n}\n\nimpl Part for u32 {\n    fn part(self) -> u32 {\n        \
+                      self\n    }\n}\n\nimpl<'a> Lent<'a> {\n    ghost use Rattle.half.specs.Lent.{lent};\n\n    pub fn lent(self) -> u32\n        \
+                      ensures { result ≡ lent self }\n    {\n        2\n    }\n}\n";
         let functions: Vec<_> = contracts::functions(source).collect();
         assert_eq!(
             functions,
@@ -86,7 +89,10 @@ mod tests {
                 ("bare".to_owned(), vec![]),
                 ("short".to_owned(), vec![]),
                 ("Two::halved".to_owned(), vec![("half".to_owned(), "half/specs/Half.antt".to_owned())]),
-                ("quiet".to_owned(), vec![])
+                ("quiet".to_owned(), vec![]),
+                ("Part::part".to_owned(), vec![("half".to_owned(), "half/specs/Half.antt".to_owned())]),
+                ("Part::other".to_owned(), vec![]),
+                ("Lent::lent".to_owned(), vec![("lent".to_owned(), "half/specs/Lent.antt".to_owned())])
             ]
         );
     }
