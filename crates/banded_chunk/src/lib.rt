@@ -70,11 +70,19 @@ fn words_searched_simd<const L: usize>(columns: Columns, p: BandedPaint, v: [f32
     requires { Searchable columns × (0 < L) × (L ≤ 16) }
     ensures { result ≡ padded 0 16 (lane_chunk (bands_of columns.entry) p (take L v)) }
 {
-    let indices = indices::band_indices(L, columns, v);
+    let indices = indices::band_indices(L, columns.starts, columns.count, v);
     let unheld = [p.unmappable.nodata; 16];
     let scan = Scan {
-        colors: banded_search::colors_at(L, columns, indices, v, unheld),
-        finished: banded_search::all_held(L, columns, indices, v),
+        colors: banded_search::colors_at(
+            L,
+            columns.starts,
+            columns.ends,
+            columns.colors,
+            indices,
+            v,
+            unheld,
+        ),
+        finished: banded_search::all_held(L, columns.starts, columns.ends, indices, v),
     };
     let c = banded_lanes::apply_lane_edges(L, columns, p.unmappable, v, scan);
     p.exclusions.masked_simd(L, v, p.unmappable.nodata, c)

@@ -15,8 +15,7 @@ use Rattle.banded_columns.specs.declared.LegendBand.{LegendBand}
 use Rattle.banded_columns.specs.Band.{holds}
 use Rattle.banded_lanes.specs.Edges.{Lane}
 use Rattle.banded_lanes.specs.LaneRule.{started, over, all_inside, Sweep, swept}
-use Rattle.banded_rule.specs.declared.columns.Columns.{Columns}
-use Rattle.banded_rule.specs.forms.Columns.{bands_of, nth_band}
+use Rattle.banded_rule.specs.forms.Columns.{band_at, from_columns}
 use Rattle.banded_lanes.specs.forms.Scanning.{all_below, Scanned}
 use Rattle.lists.proofs.Entries.{same_rule, front, map_rule, map_same}
 use Rattle.banded_rule.proofs.Forms.{drop-band, drop-end}
@@ -96,12 +95,12 @@ over-lane b v i i' c c' p q = go i (holds b v) ∙ sym (ap₂ (λ (x : Bool) (y 
     go false true = refl
     go false false = refl
 
-module _ (columns : Columns) (nodata n : ℕ) (value : List Float) where
+module _ (starts ends : List Float) (colors : List ℕ) (count : ℕ) (nodata n : ℕ) (value : List Float) where
   abbrev f : ℕ → LegendBand
-  f = nth_band columns
+  f = band_at starts ends colors
 
   abbrev bands : List LegendBand
-  bands = bands_of columns
+  bands = from_columns starts ends colors count
 
   abbrev chunk : List Lane
   chunk = map (started nodata) (take n value)
@@ -111,7 +110,7 @@ module _ (columns : Columns) (nodata n : ℕ) (value : List Float) where
 
   -- the bands from i on make of the lanes so far what all bands make of the chunk
   pub record Scanning (i : ℕ) (inside : List Bool) (color : List ℕ) : Type 0 where
-    pub upto : i ≤ columns.count
+    pub upto : i ≤ count
     pub insides : LanesOf false n (λ k. get_or inside k false) inside
     pub colored : LanesOf 0 n (λ k. get_or color k 0) color
     pub goes : swept (drop i bands) (lanes_of n value inside color) ≡ swept bands chunk
@@ -133,7 +132,7 @@ module _ (columns : Columns) (nodata n : ℕ) (value : List Float) where
 
   -- band i over the lanes
   module _ {i : ℕ} {inside : List Bool} {color : List ℕ} (inside' : List Bool) (color' : List ℕ) {b : LegendBand} {all : Bool} (s : Scanning i inside color)
-      (h : i < columns.count) (e : b ≡ f i)
+      (h : i < count) (e : b ≡ f i)
       (p : LanesOf 0 n (λ k. cond (holds b (get_or value k nan)) b.color (get_or color k 0)) color')
       (q : LanesOf false n (λ k. get_or inside k false || holds b (get_or value k nan)) inside')
       (a : all ≡ all_below n (λ k. get_or inside k false || holds b (get_or value k nan))) where
@@ -157,7 +156,7 @@ module _ (columns : Columns) (nodata n : ℕ) (value : List Float) where
     turned =
         sym
         (ap (λ (bs : List LegendBand). swept bs (lanes_of n value inside color))
-        (drop-band columns i h ∙ ap (λ (c : LegendBand). c ∷ drop (i + 1) bands) (sym e))
+        (drop-band starts ends colors count i h ∙ ap (λ (c : LegendBand). c ∷ drop (i + 1) bands) (sym e))
         ∙ ap (λ (ls : List Lane). cond (all_inside ls) (record { finished = true; lanes = ls }) (swept (drop (i + 1) bands) ls)) overs
         ∙ ap (λ (t : Bool). cond t (record { finished = true; lanes = next }) (swept (drop (i + 1) bands) next)) alls)
         ∙ s.goes
@@ -176,7 +175,7 @@ module _ (columns : Columns) (nodata n : ℕ) (value : List Float) where
         }
 
   -- past the last band
-  pub scanning_end : {i : ℕ} {inside : List Bool} {color : List ℕ} → Scanning i inside color → columns.count ≤ i
+  pub scanning_end : {i : ℕ} {inside : List Bool} {color : List ℕ} → Scanning i inside color → count ≤ i
       → Scanned n bands nodata value (record { colors = color; finished = false })
   unfolding swept
   scanning_end {i} {inside} {color} s h =
@@ -186,4 +185,4 @@ module _ (columns : Columns) (nodata n : ℕ) (value : List Float) where
       }
     where
       left : record { finished = false; lanes = lanes_of n value inside color } ≡ swept bands chunk
-      left = sym (ap (λ (bs : List LegendBand). swept bs (lanes_of n value inside color)) (drop-end columns i h)) ∙ s.goes
+      left = sym (ap (λ (bs : List LegendBand). swept bs (lanes_of n value inside color)) (drop-end starts ends colors count i h)) ∙ s.goes

@@ -20,20 +20,19 @@ use Rattle.banded_columns.specs.declared.LegendBand.{LegendBand}
 use Rattle.banded_lanes.specs.declared.Scan.{Scan}
 use Rattle.banded_lanes.specs.Edges.{Lane, edged, lane_edge_color}
 use Rattle.banded_lanes.specs.LaneRule.{started, Sweep, swept, chunk_colors, lane_colors}
-use Rattle.banded_rule.specs.declared.columns.Columns.{Columns}
-use Rattle.banded_rule.specs.forms.Columns.{bands_of, nth_band}
+use Rattle.banded_rule.specs.forms.Columns.{band_at, from_columns}
 use Rattle.banded_lanes.specs.forms.Scanning.{Scanned}
 use Rattle.banded_rule.proofs.Forms.{drop-end}
 use Rattle.banded_lanes.proofs.LaneForms.{lane-none, lane_columns}
 use Rattle.lists.proofs.Entries.{map_rule}
 use Rattle.banded_lanes.proofs.Chunk.{values_kept}
 
-module _ (columns : Columns) (u : UnmappableColors) (n : ℕ) (value : List Float) where
+module _ (starts ends : List Float) (colors : List ℕ) (count : ℕ) (u : UnmappableColors) (n : ℕ) (value : List Float) where
   abbrev f : ℕ → LegendBand
-  f = nth_band columns
+  f = band_at starts ends colors
 
   abbrev bands : List LegendBand
-  bands = bands_of columns
+  bands = from_columns starts ends colors count
 
   abbrev chunk : List Lane
   chunk = map (started u.nodata) (take n value)
@@ -46,27 +45,27 @@ module _ (columns : Columns) (u : UnmappableColors) (n : ℕ) (value : List Floa
   values_are = values_kept bands chunk ∙ map-map (λ (l : Lane). l.value) (started u.nodata) (take n value) ∙ map-id (take n value)
 
   module _ {scan : Scan} (s : Scanned n bands u.nodata value scan) where
-    none : columns.count ≡ 0 → swept bands chunk ≡ record { finished = false; lanes = chunk }
+    none : count ≡ 0 → swept bands chunk ≡ record { finished = false; lanes = chunk }
     unfolding swept
-    none e = ap (λ (bs : List LegendBand). swept bs chunk) (drop-end columns 0 (omega arith))
+    none e = ap (λ (bs : List LegendBand). swept bs chunk) (drop-end starts ends colors count 0 (omega arith))
 
-    pub settled_none : columns.count ≡ 0 → scan.colors ≡ padded 0 16 (lane_colors bands u (take n value))
+    pub settled_none : count ≡ 0 → scan.colors ≡ padded 0 16 (lane_colors bands u (take n value))
     settled_none e =
         s.colors ∙ ap (λ (w : Sweep). padded 0 16 (map (λ (l : Lane). l.color) w.lanes)) (none e)
-        ∙ ap (padded 0 16) (map-map (λ (l : Lane). l.color) (started u.nodata) (take n value) ∙ sym (lane-none columns u (take n value) e))
+        ∙ ap (padded 0 16) (map-map (λ (l : Lane). l.color) (started u.nodata) (take n value) ∙ sym (lane-none starts ends colors count u (take n value) e))
 
     abbrev edge : Lane → ℕ
-    edge = edged u (f 0) (f (columns.count - 1))
+    edge = edged u (f 0) (f (count - 1))
 
-    by_edges : (t : Bool) → 0 < columns.count → scan.finished ≡ t → lane_colors bands u (take n value) ≡ cond t (map (λ (l : Lane). l.color) lasts) (map edge lasts)
+    by_edges : (t : Bool) → 0 < count → scan.finished ≡ t → lane_colors bands u (take n value) ≡ cond t (map (λ (l : Lane). l.color) lasts) (map edge lasts)
     unfolding chunk_colors lasts
     by_edges t p e =
-        lane_columns columns u (take n value) p
+        lane_columns starts ends colors count u (take n value) p
         ∙ ap (λ (b : Bool). cond b (map (λ (l : Lane). l.color) (swept bands chunk).lanes) (map edge (swept bands chunk).lanes)) (sym s.finished ∙ e)
 
     -- no bands finish no chunk
-    some : scan.finished ≡ true → 0 < columns.count
-    some e = elim (eq-zero-or-pos columns.count) [
+    some : scan.finished ≡ true → 0 < count
+    some e = elim (eq-zero-or-pos count) [
       | inl z ↦ absurd (differ (sym (s.finished ∙ ap (λ (w : Sweep). w.finished) (none z)) ∙ e))
       | inr p ↦ p
     ]
@@ -101,7 +100,7 @@ module _ (columns : Columns) (u : UnmappableColors) (n : ℕ) (value : List Floa
       lasts_are : tabulate n (λ k. get_or lasts k blank) ≡ lasts
       lasts_are = ap (λ (m : ℕ). tabulate m (λ k. get_or lasts k blank)) (sym long) ∙ tabulate_own blank lasts
 
-      pub settled_edges : {r : List ℕ} {first last : LegendBand} → scan.finished ≡ false → 0 < columns.count → first ≡ f 0 → last ≡ f (columns.count - 1) →
+      pub settled_edges : {r : List ℕ} {first last : LegendBand} → scan.finished ≡ false → 0 < count → first ≡ f 0 → last ≡ f (count - 1) →
           LanesOf 0 n (λ k. lane_edge_color first last u (get_or value k nan) (get_or scan.colors k 0)) r → r ≡ padded 0 16 (lane_colors bands u (take n value))
       unfolding edged
       settled_edges {r} {first} {last} e p a b h =
@@ -111,4 +110,4 @@ module _ (columns : Columns) (u : UnmappableColors) (n : ℕ) (value : List Floa
           lane : (k : ℕ) → k < n → lane_edge_color first last u (get_or value k nan) (get_or scan.colors k 0) ≡ edge (get_or lasts k blank)
           lane k q =
               ap₂ (λ (x y : LegendBand). lane_edge_color x y u (get_or value k nan) (get_or scan.colors k 0)) a b
-              ∙ ap₂ (λ (v : Float) (c : ℕ). lane_edge_color (f 0) (f (columns.count - 1)) u v c) (value_at_lem k q) (color_at_lem k q)
+              ∙ ap₂ (λ (v : Float) (c : ℕ). lane_edge_color (f 0) (f (count - 1)) u v c) (value_at_lem k q) (color_at_lem k q)

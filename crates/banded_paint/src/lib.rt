@@ -49,7 +49,7 @@ pub fn paint(columns: Columns, p: BandedPaint, src: &[f32], out: &mut [u32])
     ensures { out.new ≡ plain_painted (plain_sample (bands_of columns.entry) p)
         src.now }
 {
-    let search = indices::ascending_disjoint(columns);
+    let search = indices::ascending_disjoint(columns.starts, columns.ends, columns.count);
     let blocks = src.len() / 16;
     for k in 0..blocks {
         let base = 16 * k;
@@ -65,7 +65,8 @@ pub fn paint_simd(columns: Columns, p: BandedPaint, l: usize, src: &[f32], out: 
     ensures { out.new ≡ lane_painted l (lane_chunk (bands_of columns.entry) p)
         (plain_sample (bands_of columns.entry) p) src.now }
 {
-    let search = indices::ascending_disjoint(columns) & (0 < columns.count);
+    let search = indices::ascending_disjoint(columns.starts, columns.ends, columns.count)
+        & (0 < columns.count);
     let chunks = src.len() / l;
     for k in 0..chunks {
         let base = l * k;

@@ -1,4 +1,4 @@
--- The plain rule as colours, and over borrowed columns. Assumes nothing.
+-- The plain rule as colours, and over bands that stand in three arrays. Assumes nothing.
 use Prim.Native.Nat.{ℕ, zero, suc, ◌+◌, ◌-◌, ◌≤◌, ◌<◌}
 use mathlib.Core.Path.{◌≡◌, refl, sym, ap, ap₂, ◌∙◌}
 use mathlib.Core.Bool.{Bool, true, false, cond}
@@ -17,8 +17,7 @@ use Rattle.banded_columns.specs.declared.LegendBand.{LegendBand}
 use Rattle.banded_columns.specs.Band.{holds, last_of}
 use Rattle.colormapper.specs.Rule.{Rule, band, lower_edge, upper_edge, low, high, gap, rule_color}
 use Rattle.banded_rule.specs.PlainRule.{first_band, edges, plain_rule, banded_rule_colors, plain_color}
-use Rattle.banded_rule.specs.declared.columns.Columns.{Columns}
-use Rattle.banded_rule.specs.forms.Columns.{from_columns, bands_of, nth_band}
+use Rattle.banded_rule.specs.forms.Columns.{band_at, from_columns}
 use Rattle.banded_rule.specs.forms.Steps.{first_color, edge_color}
 
 abbrev colors : List LegendBand → List ℕ
@@ -82,65 +81,60 @@ module _ (u : UnmappableColors) where
       zero_more : (j : ℕ) → get_or (colors (b ∷ bs)) (0 + j) 0 ≡ get_or (colors (b ∷ bs)) j 0
       zero_more j = let e : 0 + j ≡ j = omega arith in ap (λ (n : ℕ). get_or (colors (b ∷ bs)) n 0) e
 
--- ---- borrowed columns
+-- ---- bands that stand in three arrays
 last_at : (f : ℕ → LegendBand) (n : ℕ) → last_of (f 0) (tabulate n (λ k. f (suc k))) ≡ f n
 unfolding last_of tabulate
 last_at f zero = refl
 last_at f (suc n) = last_at (λ k. f (suc k)) n
 
-module _ (columns : Columns) where
+module _ (starts ends : List Float) (colors : List ℕ) where
   abbrev f : ℕ → LegendBand
-  f = nth_band columns
+  f = band_at starts ends colors
 
-  abbrev bands : List LegendBand
-  bands = bands_of columns
+  abbrev bands : ℕ → List LegendBand
+  bands = from_columns starts ends colors
 
-  pub plain-none : (u : UnmappableColors) (v : Float) → columns.count ≡ 0 → plain_color bands u v ≡ u.nodata
+  pub plain-none : (count : ℕ) (u : UnmappableColors) (v : Float) → count ≡ 0 → plain_color (bands count) u v ≡ u.nodata
   unfolding from_columns tabulate plain_rule
-  plain-none u v e = ap (λ (n : ℕ). plain_color (tabulate n f) u v) e
+  plain-none count u v e = ap (λ (n : ℕ). plain_color (bands n) u v) e
 
   -- the bands from the one at i on
-  pub drop-band : (i : ℕ) → i < columns.count → drop i bands ≡ f i ∷ drop (i + 1) bands
+  pub drop-band : (count i : ℕ) → i < count → drop i (bands count) ≡ f i ∷ drop (i + 1) (bands count)
   unfolding from_columns
-  drop-band i h =
-      let n = length-tabulate columns.count f in
-      drop-cons (tabulate columns.count f) i (f 0) (omega (arith, n))
-      ∙ ap₂ (λ (b : LegendBand) (bs : List LegendBand). b ∷ bs) (get_d_tabulate columns.count f i (f 0) h)
-      (ap (λ (n : ℕ). drop n (tabulate columns.count f)) (sym (add-one i)))
+  drop-band count i h =
+      drop-cons (tabulate count f) i (f 0) (omega (arith, length-tabulate count f))
+      ∙ ap₂ (λ (b : LegendBand) (bs : List LegendBand). b ∷ bs) (get_d_tabulate count f i (f 0) h) (ap (λ (n : ℕ). drop n (tabulate count f)) (sym (add-one i)))
 
-  pub drop-end : (i : ℕ) → columns.count ≤ i → drop i bands ≡ []
+  pub drop-end : (count i : ℕ) → count ≤ i → drop i (bands count) ≡ []
   unfolding from_columns
-  drop-end i h = drop_of_length-le (tabulate columns.count f) {i = i} (omega (arith, length-tabulate columns.count f))
+  drop-end count i h = drop_of_length-le (tabulate count f) {i = i} (omega (arith, length-tabulate count f))
 
   pub last_is : (n : ℕ) → last_of (f 0) (tabulate n (λ k. f (suc k))) ≡ f (suc n - 1)
   last_is n = let e : n ≡ suc n - 1 = omega arith in last_at f n ∙ ap f e
 
-  packed : (n : ℕ) (u : UnmappableColors) (v : Float) → 0 < n → plain_color (tabulate n f) u v ≡ first_color (tabulate n f) v (edge_color (f 0) (f (n - 1)) u v)
-  unfolding tabulate
-  packed zero u v h = absurd (omega arith)
-  packed (suc n) u v h =
+  pub plain_packed : (count : ℕ) (u : UnmappableColors) (v : Float) → 0 < count → plain_color (bands count) u v ≡ first_color (bands count) v
+      (edge_color (f 0) (f (count - 1)) u v)
+  unfolding from_columns tabulate
+  plain_packed zero u v h = absurd (omega arith)
+  plain_packed (suc n) u v h =
       let bs = tabulate n (λ k. f (suc k)) in plain_form u (f 0) bs v ∙ ap (λ (l : LegendBand). first_color (f 0 ∷ bs) v (edge_color (f 0) l u v)) (last_is n)
 
-  pub plain_packed : (u : UnmappableColors) (v : Float) → 0 < columns.count
-      → plain_color bands u v ≡ first_color bands v (edge_color (f 0) (f (columns.count - 1)) u v)
-  unfolding from_columns
-  plain_packed = packed columns.count
-
   -- the first band that holds a value, from the one at i on
-  module _ (i : ℕ) (v : Float) (o : ℕ) where
-    pub first_at : {b : LegendBand} (j : ℕ) → i + 1 ≡ j → i < columns.count → b ≡ f i → first_color (drop i bands) v o ≡ cond (holds b v) b.color
-        (first_color (drop j bands) v o)
+  module _ (count i : ℕ) (v : Float) (o : ℕ) where
+    pub first_at : {b : LegendBand} (j : ℕ) → i + 1 ≡ j → i < count → b ≡ f i → first_color (drop i (bands count)) v o ≡ cond (holds b v) b.color
+        (first_color (drop j (bands count)) v o)
     unfolding first_color
     first_at {b} j n h e =
-        ap (λ (bs : List LegendBand). first_color bs v o) (drop-band i h)
-        ∙ ap₂ (λ (a : LegendBand) (m : ℕ). cond (holds a v) a.color (first_color (drop m bands) v o)) (sym e) n
+        ap (λ (bs : List LegendBand). first_color bs v o) (drop-band count i h)
+        ∙ ap₂ (λ (a : LegendBand) (m : ℕ). cond (holds a v) a.color (first_color (drop m (bands count)) v o)) (sym e) n
 
-    pub first_held : {b : LegendBand} → i < columns.count → b ≡ f i → holds b v ≡ true → first_color (drop i bands) v o ≡ b.color
-    first_held {b} h e t = first_at (i + 1) refl h e ∙ ap (λ (x : Bool). cond x b.color (first_color (drop (i + 1) bands) v o)) t
+    pub first_held : {b : LegendBand} → i < count → b ≡ f i → holds b v ≡ true → first_color (drop i (bands count)) v o ≡ b.color
+    first_held {b} h e t = first_at (i + 1) refl h e ∙ ap (λ (x : Bool). cond x b.color (first_color (drop (i + 1) (bands count)) v o)) t
 
-    pub first_passed : {b : LegendBand} → i < columns.count → b ≡ f i → holds b v ≡ false → first_color (drop i bands) v o ≡ first_color (drop (i + 1) bands) v o
-    first_passed {b} h e t = first_at (i + 1) refl h e ∙ ap (λ (x : Bool). cond x b.color (first_color (drop (i + 1) bands) v o)) t
+    pub first_passed : {b : LegendBand} → i < count → b ≡ f i → holds b v ≡ false → first_color (drop i (bands count)) v o
+        ≡ first_color (drop (i + 1) (bands count)) v o
+    first_passed {b} h e t = first_at (i + 1) refl h e ∙ ap (λ (x : Bool). cond x b.color (first_color (drop (i + 1) (bands count)) v o)) t
 
-    pub first_end : columns.count ≤ i → first_color (drop i bands) v o ≡ o
+    pub first_end : count ≤ i → first_color (drop i (bands count)) v o ≡ o
     unfolding first_color
-    first_end h = ap (λ (bs : List LegendBand). first_color bs v o) (drop-end i h)
+    first_end h = ap (λ (bs : List LegendBand). first_color bs v o) (drop-end count i h)

@@ -23,11 +23,7 @@ impl Columns<'_> {
         requires { i < 64 }
         ensures { result ≡ nth_band self.entry i }
     {
-        LegendBand {
-            start: self.starts[i],
-            end: self.ends[i],
-            color: self.colors[i],
-        }
+        crate::band_at(self.starts, self.ends, self.colors, i)
     }
 
     pub fn first(self) -> LegendBand

@@ -3,12 +3,12 @@
 
 pub mod columns;
 
-ghost use Rattle.std.specs.Prelude.{◌≡◌, cond, get_or};
+ghost use Rattle.std.specs.Prelude.{◌≡◌, cond, ◌<◌, get_or};
 ghost use Rattle.std.specs.Float.{nan};
 ghost use Rattle.lists.specs.Lanes.{Lanes};
 ghost use Rattle.colormapper.specs.Tolerance.{within};
 ghost use Rattle.banded_columns.specs.Band.{holds};
-ghost use Rattle.banded_rule.specs.forms.Columns.{bands_of};
+ghost use Rattle.banded_rule.specs.forms.Columns.{band_at, bands_of};
 ghost use Rattle.banded_rule.specs.PlainRule.{plain_color};
 ghost use Rattle.banded_rule.specs.forms.Steps.{first_color, edge_color};
 
@@ -102,6 +102,18 @@ pub fn edge_colors(
 }
 
 // ---- what both rules use
+
+// The band at a place of three columns, counted or not.
+pub fn band_at(starts: &[f32; 64], ends: &[f32; 64], colors: &[u32; 64], i: usize) -> LegendBand
+    requires { i < 64 }
+    ensures { result ≡ band_at starts.now ends.now colors.now i }
+{
+    LegendBand {
+        start: starts[i],
+        end: ends[i],
+        color: colors[i],
+    }
+}
 
 // The size of the difference is below the tolerance where the difference and its negative are.
 pub fn is_within(edge: f32, value: f32) -> bool

@@ -12,8 +12,7 @@ use Rattle.banded_columns.specs.declared.LegendBand.{LegendBand}
 use Rattle.banded_columns.specs.Band.{holds}
 use Rattle.banded_columns.specs.Order.{ascending_disjoint}
 use Rattle.banded_rule.specs.PlainRule.{plain_color}
-use Rattle.banded_rule.specs.declared.columns.Columns.{Columns}
-use Rattle.banded_rule.specs.forms.Columns.{from_columns, bands_of, nth_band}
+use Rattle.banded_rule.specs.forms.Columns.{band_at, from_columns}
 use Rattle.banded_rule.specs.forms.Steps.{first_color, edge_color}
 use Rattle.banded_rule.proofs.Forms.{plain_packed}
 use Rattle.banded_search.specs.forms.Indices.{band_index, color_at}
@@ -40,30 +39,21 @@ module _ (v : Float) (otherwise : ℕ) where
       no_is (holds (f 0) v) (f 0).color _ (h 0 (omega arith) (λ (e : 0 ≡ suc p). omega arith))
       ∙ first_one n (λ k. f (suc k)) p (omega arith) (λ j l d. h (suc j) (omega arith) (λ (e : suc j ≡ suc p). d (omega arith)))
 
-module _ (columns : Columns) where
-  abbrev starts : List Float
-  starts = columns.starts.now
+-- the plain rule's bands, by the index
+pub first_at_index : (starts ends : List Float) (colors : List ℕ) (count : ℕ) (v : Float) (otherwise : ℕ) → 0 < count
+    → ascending_disjoint (from_columns starts ends colors count) ≡ true →
+    first_color (from_columns starts ends colors count) v otherwise ≡ color_at starts ends colors (band_index starts count v) v otherwise
+unfolding from_columns
+first_at_index starts ends colors count v otherwise p a =
+    first_one v otherwise count (band_at starts ends colors) (band_index starts count v) (index_below starts v count p)
+    (no_other starts v ends count (ascent starts ends colors count a))
 
-  abbrev ends : List Float
-  ends = columns.ends.now
-
-  abbrev colors : List ℕ
-  colors = columns.colors.now
-
-  -- the plain rule's bands, by the index
-  pub first_at_index : (v : Float) (otherwise : ℕ) → 0 < columns.count → ascending_disjoint (bands_of columns) ≡ true
-      → first_color (bands_of columns) v otherwise ≡ color_at starts ends colors (band_index starts columns.count v) v otherwise
-  unfolding from_columns
-  first_at_index v otherwise p a =
-      first_one v otherwise columns.count (nth_band columns) (band_index starts columns.count v) (index_below starts v columns.count p)
-      (no_other starts v ends columns.count (ascent starts ends colors columns.count a))
-
-  -- the plain rule, by the index and by the colour of the edges
-  pub plain_at_index : (u : UnmappableColors) (v : Float) {first last : LegendBand} {index edge : ℕ} → 0 < columns.count
-      → ascending_disjoint (bands_of columns) ≡ true → index ≡ band_index starts columns.count v
-      → first ≡ nth_band columns 0 → last ≡ nth_band columns (columns.count - 1) → edge ≡ edge_color first last u v
-      → color_at starts ends colors index v edge ≡ plain_color (bands_of columns) u v
-  plain_at_index u v p a k x y e =
-      ap₂ (λ (j c : ℕ). color_at starts ends colors j v c) k (e ∙ ap₂ (λ (b d : LegendBand). edge_color b d u v) x y)
-      ∙ sym (first_at_index v (edge_color (nth_band columns 0) (nth_band columns (columns.count - 1)) u v) p a)
-      ∙ sym (plain_packed columns u v p)
+-- the plain rule, by the index and by the colour of the edges
+pub plain_at_index : (starts ends : List Float) (colors : List ℕ) (count : ℕ) (u : UnmappableColors) (v : Float) {first last : LegendBand} {index edge : ℕ}
+    → 0 < count → ascending_disjoint (from_columns starts ends colors count) ≡ true →
+    index ≡ band_index starts count v → first ≡ band_at starts ends colors 0 → last ≡ band_at starts ends colors (count - 1) → edge ≡ edge_color first last u v →
+    color_at starts ends colors index v edge ≡ plain_color (from_columns starts ends colors count) u v
+plain_at_index starts ends colors count u v p a k x y e =
+    ap₂ (λ (j c : ℕ). color_at starts ends colors j v c) k (e ∙ ap₂ (λ (b d : LegendBand). edge_color b d u v) x y)
+    ∙ sym (first_at_index starts ends colors count v (edge_color (band_at starts ends colors 0) (band_at starts ends colors (count - 1)) u v) p a)
+    ∙ sym (plain_packed starts ends colors count u v p)

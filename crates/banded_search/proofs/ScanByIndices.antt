@@ -22,8 +22,7 @@ use Rattle.banded_columns.specs.declared.LegendBand.{LegendBand}
 use Rattle.banded_columns.specs.Order.{ascending_disjoint}
 use Rattle.banded_lanes.specs.Edges.{Lane}
 use Rattle.banded_lanes.specs.LaneRule.{started, over, all_inside, Sweep, swept}
-use Rattle.banded_rule.specs.declared.columns.Columns.{Columns}
-use Rattle.banded_rule.specs.forms.Columns.{bands_of, nth_band}
+use Rattle.banded_rule.specs.forms.Columns.{band_at, from_columns}
 use Rattle.banded_lanes.specs.forms.Scanning.{all_below, Scanned}
 use Rattle.lists.proofs.Entries.{same_rule, front, map_rule}
 use Rattle.banded_rule.proofs.Forms.{drop-band, drop-end}
@@ -53,24 +52,13 @@ each_below (suc n) f h k q = elim (eq-or-lt_of_le {n = k} {m = n} (omega arith))
 abbrev lane_of : Float → (inside : Bool) (color nodata : ℕ) → Lane
 lane_of v inside color nodata = record { value = v; inside = inside; color = cond inside color nodata }
 
-module _ (columns : Columns) (nodata n : ℕ) (value : List Float) (some : 0 < columns.count) (ordered : ascending_disjoint (bands_of columns) ≡ true) where
-  abbrev starts : List Float
-  starts = columns.starts.now
-
-  abbrev ends : List Float
-  ends = columns.ends.now
-
-  abbrev colors : List ℕ
-  colors = columns.colors.now
-
-  abbrev count : ℕ
-  count = columns.count
-
+module _ (starts ends : List Float) (colors : List ℕ) (count nodata n : ℕ) (value : List Float) (some : 0 < count)
+    (ordered : ascending_disjoint (from_columns starts ends colors count) ≡ true) where
   abbrev f : ℕ → LegendBand
-  f = nth_band columns
+  f = band_at starts ends colors
 
   abbrev bands : List LegendBand
-  bands = bands_of columns
+  bands = from_columns starts ends colors count
 
   abbrev v : ℕ → Float
   v k = get_or value k nan
@@ -159,10 +147,10 @@ module _ (columns : Columns) (nodata n : ℕ) (value : List Float) (some : 0 < c
   unfolding swept
   sweep zero i e out =
       let d : i ≡ count = omega arith in
-      ap (λ (bs : List LegendBand). swept bs (lanes i)) (drop-end columns i (omega arith))
+      ap (λ (bs : List LegendBand). swept bs (lanes i)) (drop-end starts ends colors count i (omega arith))
       ∙ ap₂ (λ (t : Bool) (ls : List Lane). record { finished = t; lanes = ls }) (sym out ∙ ap (λ (j : ℕ). all_inside (lanes j)) d ∙ all_last) (ap lanes d)
   sweep (suc m) i e out =
-      ap (λ (bs : List LegendBand). swept bs (lanes i)) (drop-band columns i (omega arith))
+      ap (λ (bs : List LegendBand). swept bs (lanes i)) (drop-band starts ends colors count i (omega arith))
       ∙ ap (λ (ls : List Lane). cond (all_inside ls) (record { finished = true; lanes = ls }) (swept (drop (i + 1) bands) ls)) (overs i (omega arith))
       ∙ go (all_inside (lanes (i + 1))) refl (sweep m (i + 1) (omega arith))
     where

@@ -1,39 +1,43 @@
-// Ascending disjoint bands, and the index of the one band that can hold a sample, found by counting (docs/RULES.md, "Banded").
-ghost use Rattle.std.specs.Prelude.{◌≡◌, cond, ◌+◌, ◌≤◌, get_or};
+// Ascending disjoint bands, and the index of the one band that can hold a sample, found by counting (docs/RULES.md, "Banded"). The columns of the bands
+// come with a count of at most 64.
+ghost use Rattle.std.specs.Prelude.{◌≡◌, cond, List, ℕ, ◌+◌, ◌≤◌, get_or};
 ghost use Rattle.std.specs.Float.{nan};
 ghost use Rattle.std.specs.Float.Ieee.{le};
 ghost use Rattle.lists.specs.Each.{each};
 ghost use Rattle.lists.specs.Lanes.{LanesOf};
 ghost use Rattle.banded_columns.specs.Order.{starts_below_end, clears, each_next, ascending_disjoint};
-ghost use Rattle.banded_rule.specs.forms.Columns.{bands_of};
+ghost use Rattle.banded_rule.specs.forms.Columns.{from_columns};
 ghost use Rattle.banded_search.specs.forms.Indices.{IndicesInBounds, BandIndices};
 
-use banded_rule::Columns;
-
-// Whether each counted band starts below its end and none starts below the end of the one before: checked once per painting.
+// Whether each counted band starts below its end and none starts below the end of the one before, whatever their colours: checked once
+// per painting.
 #[tactic(auto, unfolding(banded_columns::specs::Order::ascending_disjoint))]
-pub fn ascending_disjoint(columns: Columns) -> bool
-    ensures { result ≡ ascending_disjoint (bands_of columns.entry) }
+pub fn ascending_disjoint(starts: &[f32; 64], ends: &[f32; 64], count: usize) -> bool
+    requires { count ≤ 64 }
+    ensures { (colors : List ℕ) → result ≡ ascending_disjoint (from_columns starts.now ends.now colors count) }
 {
-    start_below_ends(columns) & are_disjoint(columns)
+    start_below_ends(starts, ends, count) & are_disjoint(starts, ends, count)
 }
 
-fn start_below_ends(columns: Columns) -> bool
-    ensures { result ≡ each starts_below_end (bands_of columns.entry) }
+fn start_below_ends(starts: &[f32; 64], ends: &[f32; 64], count: usize) -> bool
+    requires { count ≤ 64 }
+    ensures { (colors : List ℕ) → result ≡ each starts_below_end (from_columns starts.now ends.now colors count) }
 {
     let mut result = true;
-    for i in 0..columns.count {
-        result = result & (columns.starts[i] < columns.ends[i]);
+    for i in 0..count {
+        result = result & (starts[i] < ends[i]);
     }
     result
 }
 
-fn are_disjoint(columns: Columns) -> bool
-    ensures { result ≡ each_next clears (bands_of columns.entry) }
+fn are_disjoint(starts: &[f32; 64], ends: &[f32; 64], count: usize) -> bool
+    requires { count ≤ 64 }
+    ensures { (colors : List ℕ) → result ≡ each_next clears (from_columns starts.now ends.now colors count) }
 {
     let mut result = true;
-    for i in 1..columns.count {
-        result = result & !(columns.starts[i] < columns.ends[i - 1]);
+    for i in 1..count {
+        let before = i - 1;
+        result = result & !(starts[i] < ends[before]);
     }
     result
 }
@@ -41,13 +45,13 @@ fn are_disjoint(columns: Columns) -> bool
 // ---- the indices of lanes, for a lane count that is a literal of the caller's: so they are vectorised
 
 // The index of the one band that can hold each lane's sample: a band that starts above the sample does not count.
-pub fn band_indices(lanes: usize, columns: Columns, value: [f32; 16]) -> [u32; 16]
-    requires { lanes ≤ 16 }
-    ensures { BandIndices lanes columns.entry.starts.now columns.entry.count value result }
+pub fn band_indices(lanes: usize, starts: &[f32; 64], count: usize, value: [f32; 16]) -> [u32; 16]
+    requires { (lanes ≤ 16) × (count ≤ 64) }
+    ensures { BandIndices lanes starts.now count value result }
 {
     let mut result = [0u32; 16];
-    for i in 1..columns.count {
-        let next = advance_indices(lanes, columns.starts[i], value, result);
+    for i in 1..count {
+        let next = advance_indices(lanes, starts[i], value, result);
         result = next;
     }
     result

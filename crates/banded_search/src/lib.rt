@@ -30,8 +30,16 @@ pub fn colors_for_numeric_values(
         return [u.nodata; 16];
     }
     let edged = banded_rule::edge_colors(columns.first(), columns.last(), u, value);
-    let indices = indices::band_indices(16, columns, value);
-    colors_at(16, columns, indices, value, edged)
+    let indices = indices::band_indices(16, columns.starts, columns.count, value);
+    colors_at(
+        16,
+        columns.starts,
+        columns.ends,
+        columns.colors,
+        indices,
+        value,
+        edged,
+    )
 }
 
 // ---- the phases, for a lane count that is a literal of the caller's: so they are vectorised
@@ -39,33 +47,41 @@ pub fn colors_for_numeric_values(
 // The colour of the band at each lane's index where it holds the sample, else another.
 pub fn colors_at(
     lanes: usize,
-    columns: Columns,
+    starts: &[f32; 64],
+    ends: &[f32; 64],
+    colors: &[u32; 64],
     indices: [u32; 16],
     value: [f32; 16],
     otherwise: [u32; 16],
 ) -> [u32; 16]
     requires { (lanes ≤ 16) × IndicesInBounds lanes indices }
-    ensures { LanesOf 0 lanes (λ k. color_at columns.entry.starts.now columns.entry.ends.now columns.entry.colors.now (get_or indices k 0) (get_or value k nan)
+    ensures { LanesOf 0 lanes (λ k. color_at starts.now ends.now colors.now (get_or indices k 0) (get_or value k nan)
         (get_or otherwise k 0)) result }
 {
     let mut result = [0u32; 16];
     for i in 0..lanes {
         let index = indices[i] as usize;
-        let held = (columns.starts[index] <= value[i]) & (value[i] < columns.ends[index]);
-        result[i] = select::pick(held, columns.colors[index], otherwise[i]);
+        let held = (starts[index] <= value[i]) & (value[i] < ends[index]);
+        result[i] = select::pick(held, colors[index], otherwise[i]);
     }
     result
 }
 
 // Whether each lane's sample lies in the band at its index.
-pub fn all_held(lanes: usize, columns: Columns, indices: [u32; 16], value: [f32; 16]) -> bool
+pub fn all_held(
+    lanes: usize,
+    starts: &[f32; 64],
+    ends: &[f32; 64],
+    indices: [u32; 16],
+    value: [f32; 16],
+) -> bool
     requires { (lanes ≤ 16) × IndicesInBounds lanes indices }
-    ensures { result ≡ all_below lanes (λ k. held_at columns.entry.starts.now columns.entry.ends.now (get_or indices k 0) (get_or value k nan)) }
+    ensures { result ≡ all_below lanes (λ k. held_at starts.now ends.now (get_or indices k 0) (get_or value k nan)) }
 {
     let mut all = true;
     for i in 0..lanes {
         let index = indices[i] as usize;
-        all = all & (columns.starts[index] <= value[i]) & (value[i] < columns.ends[index]);
+        all = all & (starts[index] <= value[i]) & (value[i] < ends[index]);
     }
     all
 }

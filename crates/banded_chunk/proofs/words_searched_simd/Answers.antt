@@ -6,11 +6,12 @@ use Rattle.banded_chunk.proofs.MaskedWords.{lane-words}
 use Rattle.banded_chunk.proofs.words_searched_simd.Goals as goal
 
 pub apply_lane_edges-c-requires : goal.apply_lane_edges-c-requires
-apply_lane_edges-c-requires g c = (
-  omega arith,
-  scan_at_indices c.args.columns _ g.row.L _ c.requires.0.some c.requires.0.ordered (omega arith) (omega arith) (search rules)
-      c.band_indices-indices.ensures c.colors_at.ensures c.all_held.ensures,
-)
+apply_lane_edges-c-requires g c =
+    let b = c.args.columns in (
+      omega arith,
+      scan_at_indices b.starts.now b.ends.now b.colors.now b.count _ g.row.L _ c.requires.0.some c.requires.0.ordered (omega arith) (omega arith)
+          (search rules) c.band_indices-indices.ensures c.colors_at.ensures c.all_held.ensures,
+    )
 
 pub returns : goal.returns
 returns g c = lane-words g.row.L _ c.args.p c.args.v (search rules) (omega arith) c.masked_simd.ensures c.apply_lane_edges-c.ensures

@@ -11,13 +11,13 @@ pub loop-k-init : goal.loop-k-init
 loop-k-init c = numbered_start (search rules)
 
 pub block-requires : goal.block-requires
-block-requires c = (λ h. sym c.ascending_disjoint-search.ensures ∙ h, omega arith, omega arith)
+block-requires c = (λ h. sym (c.ascending_disjoint-search.ensures _) ∙ h, omega arith, omega arith)
 
 pub loop-k-preserved : goal.loop-k-preserved
 loop-k-preserved c = numbered_turn c.loop-k.invariant (omega arith) (omega arith) (λ xs. length-map xs _) c.block.ensures
 
 pub rest-requires : goal.rest-requires
-rest-requires c = (λ h. sym c.ascending_disjoint-search.ensures ∙ h, omega arith, omega arith, search rules)
+rest-requires c = (λ h. sym (c.ascending_disjoint-search.ensures _) ∙ h, omega arith, omega arith, search rules)
 
 pub returns : goal.returns
 returns c = c.rest.ensures ∙ numbered_end c.loop-k.invariant (omega arith) (omega arith) ∙ plain_in_blocks 16 _ _

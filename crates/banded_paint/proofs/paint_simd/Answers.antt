@@ -28,12 +28,14 @@ loop-k-init c = numbered_start (search rules)
 
 pub chunk_searched-requires : goal.chunk_searched-requires
 chunk_searched-requires c =
-    let room = chunk_room c.args.l (length c.args.src.now) c.loop-k.k (lane_sizes c.args.l c.requires.0).0 (omega arith) in
-    (both-asked c.ascending_disjoint.ensures c.if-search.true, c.requires.0, omega arith, omega arith)
+    let sizes = lane_sizes c.args.l c.requires.0 in
+    let room = chunk_room c.args.l (length c.args.src.now) c.loop-k.k sizes.0 in
+    (both-asked (c.ascending_disjoint.ensures _) c.if-search.true, c.requires.0, omega arith, omega arith)
 
 pub chunk-requires : goal.chunk-requires
 chunk-requires c =
-    let room = chunk_room c.args.l (length c.args.src.now) c.loop-k.k (lane_sizes c.args.l c.requires.0).0 (omega arith) in
+    let sizes = lane_sizes c.args.l c.requires.0 in
+    let room = chunk_room c.args.l (length c.args.src.now) c.loop-k.k sizes.0 in
     (c.requires.0, omega arith, omega arith)
 
 pub loop-k-preserved : goal.loop-k-preserved
@@ -45,7 +47,7 @@ loop-k-preserved c =
 pub rest-requires : goal.rest-requires
 rest-requires c =
     let sizes = lane_sizes c.args.l c.requires.0 in (
-      λ h. (both-asked {columns = c.args.columns} c.ascending_disjoint.ensures h).ordered,
+      λ h. (both-asked {columns = c.args.columns} (c.ascending_disjoint.ensures _) h).ordered,
       omega (arith, mul-div-le (length c.args.src.now) c.args.l),
       omega arith,
       search rules,

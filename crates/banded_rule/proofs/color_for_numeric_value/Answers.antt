@@ -7,21 +7,28 @@ use Rattle.banded_rule.proofs.Forms.{plain_packed, plain-none, first_held, first
 use Rattle.banded_rule.proofs.color_for_numeric_value.Goals as goal
 
 pub returns-then-columns-eq0 : goal.returns-then-columns-eq0
-returns-then-columns-eq0 c = sym (plain-none c.args.columns c.args.u c.args.value c.if-columns-eq0.true)
+returns-then-columns-eq0 c =
+    let b = c.args.columns in
+    sym (plain-none b.starts.now b.ends.now b.colors.now b.count c.args.u c.args.value c.if-columns-eq0.true)
 
 pub loop-i-init : goal.loop-i-init
-loop-i-init c = sym (plain_packed c.args.columns c.args.u c.args.value (omega arith))
+loop-i-init c = let b = c.args.columns in sym (plain_packed b.starts.now b.ends.now b.colors.now b.count c.args.u c.args.value (omega arith))
 
 pub returns-then-holds : goal.returns-then-holds
 returns-then-holds c =
-    sym (first_held c.args.columns c.loop-i.i c.args.value _ (omega arith) c.band_at-band.ensures (sym c.holds.ensures ∙ c.if-holds.true)) ∙ c.loop-i.invariant
+    let b = c.args.columns in
+    sym (first_held b.starts.now b.ends.now b.colors.now b.count c.loop-i.i c.args.value _ (omega arith) c.band_at-band.ensures
+    (sym c.holds.ensures ∙ c.if-holds.true)) ∙ c.loop-i.invariant
 
 pub loop-i-preserved : goal.loop-i-preserved
 loop-i-preserved c =
-    sym (first_passed c.args.columns c.loop-i.i c.args.value _ (omega arith) c.band_at-band.ensures (sym c.holds.ensures ∙ c.if-holds.false)) ∙ c.loop-i.invariant
+    let b = c.args.columns in
+    sym (first_passed b.starts.now b.ends.now b.colors.now b.count c.loop-i.i c.args.value _ (omega arith) c.band_at-band.ensures
+    (sym c.holds.ensures ∙ c.if-holds.false)) ∙ c.loop-i.invariant
 
 pub returns : goal.returns
 returns c =
+    let b = c.args.columns in
     c.edge_color.ensures
     ∙ ap₂ (λ (x y : LegendBand). edge_color x y c.args.u c.args.value) c.first-first.ensures c.last-last.ensures
-    ∙ sym (first_end c.args.columns c.loop-i.i c.args.value _ (omega arith)) ∙ c.loop-i.invariant
+    ∙ sym (first_end b.starts.now b.ends.now b.colors.now b.count c.loop-i.i c.args.value _ (omega arith)) ∙ c.loop-i.invariant

@@ -13,7 +13,7 @@ pub returns-then-columns-eq0 : goal.returns-then-columns-eq0
 returns-then-columns-eq0 c =
     let b = c.args.columns in
     λ k q. get_or-replicate 16 k c.args.u.nodata 0 q
-    ∙ sym (plain-none b c.args.u (get_or c.args.value k nan) c.if-columns-eq0.true)
+    ∙ sym (plain-none b.starts.now b.ends.now b.colors.now b.count c.args.u (get_or c.args.value k nan) c.if-columns-eq0.true)
 
 pub returns : goal.returns
 returns c =
@@ -22,4 +22,4 @@ returns c =
     λ k q. c.first_colors.ensures k q ∙ ap (first_color (bands_of b) (get_or a.value k nan))
     (c.edge_colors-edged.ensures k q ∙ ap₂ (λ (x y : LegendBand). edge_color x y a.u (get_or a.value k nan))
     c.first.ensures c.last.ensures)
-    ∙ sym (plain_packed b a.u (get_or a.value k nan) (omega arith))
+    ∙ sym (plain_packed b.starts.now b.ends.now b.colors.now b.count a.u (get_or a.value k nan) (omega arith))

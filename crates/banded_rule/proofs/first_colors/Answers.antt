@@ -11,13 +11,13 @@ use Rattle.banded_rule.proofs.first_colors.Goals as goal
 
 pub loop-i-init : goal.loop-i-init
 loop-i-init c =
-    let b = c.args.columns in λ k q. sym (first_end b b.count (get_or c.args.value k nan)
-    (get_or c.args.otherwise k 0) (omega arith))
+    let b = c.args.columns in
+    λ k q. sym (first_end b.starts.now b.ends.now b.colors.now b.count b.count (get_or c.args.value k nan) (get_or c.args.otherwise k 0) (omega arith))
 
 pub loop-i-preserved : goal.loop-i-preserved
 loop-i-preserved c =
     let a = c.args in
     let b = a.columns in
     λ k q. c.overwritten-next.ensures k q ∙ ap (cond (holds c.band_at.result (get_or a.value k nan)) c.band_at.result.color) (c.loop-i.invariant k q)
-    ∙ sym (first_at b (c.loop-i.i - 1) (get_or a.value k nan) (get_or a.otherwise k 0) c.loop-i.i
+    ∙ sym (first_at b.starts.now b.ends.now b.colors.now b.count (c.loop-i.i - 1) (get_or a.value k nan) (get_or a.otherwise k 0) c.loop-i.i
     (omega arith) (omega arith) c.band_at.ensures)

@@ -18,15 +18,14 @@ loop-i-init c = refl
 pub loop-i-preserved : goal.loop-i-preserved
 loop-i-preserved c =
     let a = c.args in
-    let b = a.columns in
     let i = c.loop-i.i in
-    let f : ℕ → Bool = λ k. held_at b.starts.now b.ends.now (get_or a.indices k 0) (get_or a.value k nan) in
-    let s = le (get_or b.starts.now (get_or a.indices i 0) nan) (get_or a.value i nan) in
-    let e = lt (get_or a.value i nan) (get_or b.ends.now (get_or a.indices i 0) nan) in
+    let f : ℕ → Bool = λ k. held_at a.starts.now a.ends.now (get_or a.indices k 0) (get_or a.value k nan) in
+    let s = le (get_or a.starts.now (get_or a.indices i 0) nan) (get_or a.value i nan) in
+    let e = lt (get_or a.value i nan) (get_or a.ends.now (get_or a.indices i 0) nan) in
     ap (λ (t : Bool). (t && s) && e) c.loop-i.invariant ∙ sym (and_and (all_below i f) s e) ∙ below_more i f
 
 pub returns : goal.returns
 returns c =
     let a = c.args in
     let e : c.loop-i.i ≡ a.lanes = omega arith in
-    c.loop-i.invariant ∙ ap (λ (n : ℕ). all_below n (λ k. held_at a.columns.starts.now a.columns.ends.now (get_or a.indices k 0) (get_or a.value k nan))) e
+    c.loop-i.invariant ∙ ap (λ (n : ℕ). all_below n (λ k. held_at a.starts.now a.ends.now (get_or a.indices k 0) (get_or a.value k nan))) e

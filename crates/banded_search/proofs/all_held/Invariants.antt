@@ -6,6 +6,4 @@ use Rattle.banded_search.specs.forms.Indices.{held_at}
 use Rattle.banded_search.proofs.all_held.Given as goal
 
 abbrev pub invariant-loop-i : goal.invariant-loop-i
-invariant-loop-i l =
-    let b = l.columns in
-    l.all ≡ all_below l.i (λ k. held_at b.starts.now b.ends.now (get_or l.indices k 0) (get_or l.value k nan))
+invariant-loop-i l = l.all ≡ all_below l.i (λ k. held_at l.starts l.ends (get_or l.indices k 0) (get_or l.value k nan))

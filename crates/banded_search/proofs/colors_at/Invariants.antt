@@ -6,5 +6,4 @@ use Rattle.banded_search.proofs.colors_at.Given as goal
 
 abbrev pub invariant-loop-i : goal.invariant-loop-i
 invariant-loop-i l =
-    let b = l.columns in
-    Storing 0 (λ k. color_at b.starts.now b.ends.now b.colors.now (get_or l.indices k 0) (get_or l.value k nan) (get_or l.otherwise k 0)) 16 l.lanes l.i l.result
+    Storing 0 (λ k. color_at l.starts l.ends l.colors (get_or l.indices k 0) (get_or l.value k nan) (get_or l.otherwise k 0)) 16 l.lanes l.i l.result
