@@ -17,9 +17,9 @@ module _ {L : ℕ} {chunk : List Float → List ℕ} {plain : Float → ℕ} {xs
   pub numbered_start : {out : List ℕ} → length out ≡ length xs → InChunks L chunk plain xs (L * 0) out
   numbered_start {out} e = let none : 0 ≡ L * 0 = omega arith in subst (λ (i : ℕ). InChunks L chunk plain xs i out) none (chunks_start e)
 
-  pub numbered_turn : {k : ℕ} {out out' : List ℕ} → InChunks L chunk plain xs (L * k) out → 0 < L → k < length xs / L
-      → ((c : List Float) → length (chunk c) ≡ length c) → out' ≡ chunk_over chunk xs out (L * k) L → InChunks L chunk plain xs (L * (k + 1)) out'
-  numbered_turn {k} {out' = out'} g p h l e =
+  pub numbered_turn : {k : ℕ} {out out' : List ℕ} → InChunks L chunk plain xs (L * k) out → out' ≡ chunk_over chunk xs out (L * k) L
+      → ((c : List Float) → length (chunk c) ≡ length c) → 0 < L → k < length xs / L → InChunks L chunk plain xs (L * (k + 1)) out'
+  numbered_turn {k} {out' = out'} g e l p h =
       let next : L * k + L ≡ L * (k + 1) = omega arith in
       subst (λ (i : ℕ). InChunks L chunk plain xs i out') next (chunk_turn g p (chunk_room L (length xs) k p h) l e)
 

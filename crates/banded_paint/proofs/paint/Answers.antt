@@ -14,7 +14,7 @@ pub block-requires : goal.block-requires
 block-requires c = (λ h. sym (c.ascending_disjoint-search.ensures _) ∙ h, omega arith, omega arith)
 
 pub loop-k-preserved : goal.loop-k-preserved
-loop-k-preserved c = numbered_turn c.loop-k.invariant (omega arith) (omega arith) (λ xs. length-map xs _) c.block.ensures
+loop-k-preserved c = numbered_turn c.loop-k.invariant c.block.ensures (λ xs. length-map xs _) (omega arith) (omega arith)
 
 pub rest-requires : goal.rest-requires
 rest-requires c = (λ h. sym (c.ascending_disjoint-search.ensures _) ∙ h, omega arith, omega arith, search rules)

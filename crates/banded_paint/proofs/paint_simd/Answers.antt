@@ -40,9 +40,9 @@ chunk-requires c =
 
 pub loop-k-preserved : goal.loop-k-preserved
 loop-k-preserved c =
-    numbered_turn c.loop-k.invariant (lane_sizes _ c.requires.0).0 (omega arith)
-    (λ xs. length-masked _ _ xs _ (lane-length _ _ xs))
+    numbered_turn c.loop-k.invariant
     (elim c.if-search.branch [ then-search w ↦ w.out-is ∙ w.chunk_searched.ensures | else-search w ↦ w.out-is ∙ w.chunk.ensures ])
+    (λ xs. length-masked _ _ xs _ (lane-length _ _ xs)) (lane_sizes _ c.requires.0).0 (omega arith)
 
 pub rest-requires : goal.rest-requires
 rest-requires c =
