@@ -102,9 +102,9 @@ pub fn paint_by_keys(keys: Keys, p: CategoricPaint, src: &[f32], out: &mut [u32]
     requires { length out.old ≡ length src.now }
     ensures { out.new ≡ plain_painted (key_sample keys.entry.keys.now keys.entry.colors.now keys.entry.count p) src.now }
 {
-    let search = narrow::searchable(keys);
+    let search = narrow::searchable(keys.keys, keys.count);
     if search {
-        let narrow = narrow::narrowed(keys);
+        let narrow = narrow::narrowed(keys.keys, keys.count);
         paint_by_search(&narrow, keys.colors, p, src, out);
         return;
     }

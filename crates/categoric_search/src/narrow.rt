@@ -7,27 +7,27 @@ ghost use Rattle.lists.specs.Lanes.{Lanes};
 ghost use Rattle.categoric_search.specs.forms.Searchable.{in_key_range, ends_in_key_range, searchable};
 ghost use Rattle.categoric_search.specs.forms.Narrow.{Narrow, narrow_key};
 
-use categoric_keys::Keys;
-
 // ---- the keys, once per painting
 
 // Whether the counted keys ascend and each lies from -16,777,216 to 16,777,216, as a builder leaves them.
-pub fn searchable(keys: Keys) -> bool
-    ensures { result ≡ searchable keys.entry.keys.now keys.entry.count }
+pub fn searchable(keys: &[i64; 256], count: usize) -> bool
+    requires { count ≤ 256 }
+    ensures { result ≡ searchable keys.now count }
 {
-    let up = categoric_keys::ascending(keys.keys, keys.count);
-    let ends = ends_in_key_range(keys);
+    let up = categoric_keys::ascending(keys, count);
+    let ends = ends_in_key_range(keys, count);
     up & ends
 }
 
 // Whether the first and the last of the counted keys lie in that range: those between them do where they ascend.
-fn ends_in_key_range(keys: Keys) -> bool
-    ensures { result ≡ ends_in_key_range keys.entry.keys.now keys.entry.count }
+fn ends_in_key_range(keys: &[i64; 256], count: usize) -> bool
+    requires { count ≤ 256 }
+    ensures { result ≡ ends_in_key_range keys.now count }
 {
-    if keys.count == 0 {
+    if count == 0 {
         return true;
     }
-    in_key_range(keys.keys[0]) & in_key_range(keys.keys[keys.count - 1])
+    in_key_range(keys[0]) & in_key_range(keys[count - 1])
 }
 
 // Whether a key lies in that range.
@@ -40,13 +40,13 @@ fn in_key_range(key: i64) -> bool
 
 // The counted keys as i32, then 2,147,483,647, which is above every key.
 #[tactic(auto, using(crate::proofs::NearKeys::counted_fit))]
-pub fn narrowed(keys: Keys) -> [i32; 256]
-    requires { searchable keys.keys.now keys.count ≡ true }
-    ensures { Narrow keys.entry.keys.now keys.entry.count result }
+pub fn narrowed(keys: &[i64; 256], count: usize) -> [i32; 256]
+    requires { (count ≤ 256) × (searchable keys.now count ≡ true) }
+    ensures { Narrow keys.now count result }
 {
     let mut result = [2147483647i32; 256];
-    for i in 0..keys.count {
-        result[i] = keys.keys[i] as i32;
+    for i in 0..count {
+        result[i] = keys[i] as i32;
     }
     result
 }

@@ -16,7 +16,7 @@ loop-i-init c = (refl, below_none _, λ k h q. get_or-replicate 256 k (pos 21474
 
 pub loop-i-preserved : goal.loop-i-preserved
 loop-i-preserved c =
-    let keys = c.args.keys in
-    let key = get_or keys.keys.now c.loop-i.i (pos 0) in
-    simp (to_z-of_z w64 key (search rules), to_z-of_z w32 key (counted_fit keys.keys.now keys.count c.requires c.loop-i.i c.loop-i-test.true))
+    let keys = c.args.keys.now in
+    let key = get_or keys c.loop-i.i (pos 0) in
+    simp (to_z-of_z w64 key (search rules), to_z-of_z w32 key (counted_fit keys c.args.count c.requires.1 c.loop-i.i c.loop-i-test.true))
     (grind (arith, common_steps))
