@@ -42,7 +42,7 @@ impl<'a> Table<'a> {
         result
     }
 
-    // The words of the samples in the table that are not excluded, nodata for others. A NaN is not in the table.
+    // The words of the samples in the table that are not excluded, nodata for others.
     pub fn mask_missing(
         self,
         lanes: usize,
@@ -54,20 +54,7 @@ impl<'a> Table<'a> {
         requires { lanes ≤ 16 }
         ensures { LanesOf 0 lanes (λ k. cond (mappable_in_table exclusions self.entry.size (get_or value k nan)) (get_or words k 0) nodata) result }
     {
-        let mut result = [0u32; 16];
-        for i in 0..lanes {
-            let v = value[i];
-            let own = self.contains(v) & (v != exclusions.nodata) & (v != exclusions.zero);
-            result[i] = select::pick(own, words[i], nodata);
-        }
-        result
-    }
-
-    // Whether a sample has a word in the table: cut toward zero, it lies from 0 to below the size.
-    fn contains(self, value: f32) -> bool
-        ensures { result ≡ in_table self.entry.size value }
-    {
-        (value > -1.0) & (value < self.limit())
+        mask_missing(lanes, self.size, nodata, exclusions, value, words)
     }
 
     // The sample itself from 0 to below the size, else 0. The first choice is by a test that `mask_missing` makes too, and in this
@@ -75,20 +62,12 @@ impl<'a> Table<'a> {
     fn clamped(self, value: f32) -> f32
         ensures { result ≡ clamp self.entry.size value }
     {
-        let low = if value < self.limit() { value } else { 0.0 };
-        if low > 0.0 { low } else { 0.0 }
-    }
-
-    // The size as a float: a sample is compared before it is cut. An empty table has no sample below its limit and above -1.
-    #[tactic(auto, using(crate::proofs::TableTest::limit_above))]
-    fn limit(self) -> f32
-        ensures { result ≡ size_limit self.entry.size }
-    {
-        if self.size == 0 {
-            -1.0
+        let low = if value < limit_of(self.size) {
+            value
         } else {
-            self.size as f32
-        }
+            0.0
+        };
+        if low > 0.0 { low } else { 0.0 }
     }
 }
 
@@ -103,4 +82,42 @@ fn words_at(lanes: usize, lookup: &[u32; 513], places: [f32; 16]) -> [u32; 16]
         result[i] = lookup[index];
     }
     result
+}
+
+// The words of the samples in a table of `size` words that are not excluded, nodata for others. A NaN is not in the table.
+pub fn mask_missing(
+    lanes: usize,
+    size: usize,
+    nodata: u32,
+    exclusions: Exclusions,
+    value: [f32; 16],
+    words: [u32; 16],
+) -> [u32; 16]
+    requires { (lanes ≤ 16) × (size ≤ 513) }
+    ensures { LanesOf 0 lanes (λ k. cond (mappable_in_table exclusions size (get_or value k nan)) (get_or words k 0) nodata) result }
+{
+    let mut result = [0u32; 16];
+    for i in 0..lanes {
+        let v = value[i];
+        let own = in_table(size, v) & (v != exclusions.nodata) & (v != exclusions.zero);
+        result[i] = select::pick(own, words[i], nodata);
+    }
+    result
+}
+
+// Whether a sample has a word in the table: cut toward zero, it lies from 0 to below the size.
+fn in_table(size: usize, value: f32) -> bool
+    requires { size ≤ 513 }
+    ensures { result ≡ in_table size value }
+{
+    (value > -1.0) & (value < limit_of(size))
+}
+
+// The size as a float: a sample is compared before it is cut. An empty table has no sample below its limit and above -1.
+#[tactic(auto, using(crate::proofs::TableTest::limit_above))]
+fn limit_of(size: usize) -> f32
+    requires { size ≤ 513 }
+    ensures { result ≡ size_limit size }
+{
+    if size == 0 { -1.0 } else { size as f32 }
 }
