@@ -48,7 +48,8 @@ impl CategoricNumeric {
         ensures { result ≡ for_values values.now colors.now }
     {
         values_refusal(values.len(), colors.len())?;
-        create(values, colors)
+        let keys = categoric_lists::list_keys(values);
+        create(&keys[..values.len()], colors)
     }
 
     // The same with the colours of a ramp.
@@ -63,8 +64,9 @@ impl CategoricNumeric {
     {
         let count = values.len();
         many_refusal(count)?;
+        let keys = categoric_lists::list_keys(values);
         let words = colormap::ramp_colors(cmap, count);
-        create(values, &words[..count])
+        create(&keys[..count], &words[..count])
     }
 
     // A category for each whole number of a range, with the colours of a list.
