@@ -7,14 +7,10 @@ use Prim.Native.Nat.{ℕ, zero, suc, ◌+◌, ◌-◌, ◌≤◌, ◌<◌}
 use native.Mathlib.Omega.{arith}
 use native.Mathlib.Nat.{eq-or-lt_of_le}
 use native.Mathlib.Numerals.{add-one}
-use lib.Ieee.Bits.{is_true, is_false}
-use lib.Dec.{T, not_T, le→leb, ltb→lt, lt→ltb, nleb→lt}
+use lib.Dec.{T, le→leb, ltb→lt, lt→ltb, nleb→lt}
 use lib.Ieee.Fits.{and_l, and_r}
 use lib.IntN.{ℤ, pos, negsuc}
 use lib.ListN.{get_or}
-use mir.Syntax.{w64}
-use mir.Val.{SFits, of_z, to_z}
-use mir.ValLaws.{to_z-of_z}
 use lib.Signed.{lt_z, le_z, lt_z_yes, le_z_yes, <ℤ-≤ℤ_trans, <ℤ_irrefl}
 use Rattle.categoric_lists.specs.Ascending.{ascends}
 
@@ -63,28 +59,44 @@ unfolding ascends
 one_more keys zero p = absurd (omega arith)
 one_more keys (suc n) p = let e : suc n - 1 ≡ n = omega arith in rw (add-one (suc n), e)
 
--- ---- the next pair, as the code compares it, by the bits
-module _ (keys : List ℤ) (i : ℕ) (p : 0 < i) where
-  abbrev before : ℤ
-  before = get_or keys (i - 1) (pos 0)
+-- none or one ascends
+pub few : (keys : List ℤ) (i : ℕ) → i ≤ 1 → ascends keys i ≡ true
+unfolding ascends
+few keys zero h = refl
+few keys (suc zero) h = refl
+few keys (suc (suc i)) h = absurd (omega arith)
 
-  abbrev here : ℤ
-  here = get_or keys i (pos 0)
+-- where some of the keys do not ascend, more do not either
+pub never_again : (keys : List ℤ) (i k : ℕ) → 0 < i → ascends keys i ≡ false → ascends keys (i + k) ≡ false
+never_again keys i zero p e = let g : i + zero ≡ i = omega arith in ap (ascends keys) g ∙ e
+never_again keys i (suc k) p e =
+    let g : i + suc k ≡ i + k + 1 = omega arith in
+    ap (ascends keys) g ∙ one_more keys (i + k) (omega arith) ∙ ap (λ (b : Bool). b && lt_z (get_or keys (i + k - 1) (pos 0)) (get_or keys (i + k) (pos 0)))
+    (never_again keys i k p e)
 
-  module _ (f : SFits w64 here) (g : SFits w64 before) where
-    compared : {b : Bool} → le_z (to_z w64 (of_z w64 here)) (to_z w64 (of_z w64 before)) ≡ b → le_z here before ≡ b
-    compared h = sym (ap₂ le_z (to_z-of_z w64 here f) (to_z-of_z w64 before g)) ∙ h
+-- ---- the next pair
+not_below : (b : Bool) → not b ≡ true → b ≡ false
+not_below true e = sym e
+not_below false e = refl
 
-    pub stops : (count : ℕ) → i < count → le_z (to_z w64 (of_z w64 here)) (to_z w64 (of_z w64 before)) ≡ true → ascends keys count ≡ false
-    stops count q h =
-        is_false (ascends keys count)
-        (not_T (ascends keys count)
-        (λ t. lt_apart before before (lt_le before here before (counted-below keys count t (i - 1) i (omega arith) q) (subst T (sym (compared h)) tt)) refl))
+is_below : (b : Bool) → not b ≡ false → b ≡ true
+is_below true e = refl
+is_below false e = sym e
 
-    pub goes_on : ascends keys i ≡ true → le_z (to_z w64 (of_z w64 here)) (to_z w64 (of_z w64 before)) ≡ false → ascends keys (i + 1) ≡ true
-    goes_on up h =
-        one_more keys i p
-        ∙ ap₂ (λ (a b : Bool). a && b) up (is_true (lt_z before here) (not_le here before (subst (λ (b : Bool). T (not b)) (sym (compared h)) tt)))
+and_no : (a : Bool) → (a && false) ≡ false
+and_no true = refl
+and_no false = refl
+
+module _ (keys : List ℤ) (i : ℕ) (p : 0 < i) {x y : ℤ} (e : x ≡ get_or keys (i - 1) (pos 0)) (f : y ≡ get_or keys i (pos 0)) where
+  pub stops : (count : ℕ) → i < count → not (lt_z x y) ≡ true → ascends keys count ≡ false
+  stops count q h =
+      let g : i + 1 + (count - (i + 1)) ≡ count = omega arith in
+      let fell : ascends keys (i + 1) ≡ false = one_more keys i p ∙ ap (λ (b : Bool). ascends keys i && b) (sym (ap₂ lt_z e f) ∙ not_below (lt_z x y) h)
+      ∙ and_no (ascends keys i) in
+      sym (ap (ascends keys) g) ∙ never_again keys (i + 1) (count - (i + 1)) (omega arith) fell
+
+  pub goes_on : ascends keys i ≡ true → not (lt_z x y) ≡ false → ascends keys (i + 1) ≡ true
+  goes_on up h = one_more keys i p ∙ ap₂ (λ (a b : Bool). a && b) up (sym (ap₂ lt_z e f) ∙ is_below (lt_z x y) h)
 
 -- where none or one is counted, or all up to the count ascend
 pub all_ascend : (keys : List ℤ) (i n : ℕ) → n ≤ i → (1 ≤ n → i ≤ n) → ascends keys i ≡ true → ascends keys n ≡ true
