@@ -1,4 +1,5 @@
--- A form of the code: a record built one band after the other. That all bands give `with_bands_given` is proofs/GivenBands.antt (is-given). Definitions only.
+-- A form of the code: a record built one band after the other. That all bands give `with_bands_given` is proofs/GivenBands.antt (given_refused,
+-- given_made). Definitions only.
 use Rattle.std.specs.Prelude.{◌+◌, cond, List, [], ◌∷◌, ltb, set}
 use Rattle.banded_columns.specs.declared.LegendBand.{LegendBand}
 use Rattle.banded.specs.declared.Banded.{Banded}

@@ -1,4 +1,4 @@
--- A form of the code: the plain rule's bands, then its edges, by their colours. That these are `plain_color` is proofs/Forms.antt (plain-form). Definitions
+-- A form of the code: the plain rule's bands, then its edges, by their colours. That these are `plain_color` is proofs/Forms.antt (plain_form). Definitions
 -- only.
 use Rattle.std.specs.Prelude.{ℕ, cond, List, [], ◌∷◌, Float}
 use Rattle.colormapper.specs.declared.UnmappableColors.{UnmappableColors}
