@@ -1,28 +1,26 @@
--- Room made in an array: the entries from a place on, moved one place up; and an entry stored there. Assumes nothing.
+-- Room made in an array: the entries from a place on, moved one place up from the last; and an entry stored there. Assumes nothing.
 use mathlib.Core.List.{List, [], ◌∷◌, ◌++◌, append_assoc}
 use mathlib.Core.Path.{◌≡◌, sym, ap, ap₂, ◌∙◌}
 use Prim.Native.Nat.{ℕ, suc, ◌+◌, ◌-◌, ◌≤◌, ◌<◌}
 use native.Mathlib.Numerals.{add-one}
 use native.Mathlib.Omega.{arith}
-use lib.ListN.{length, get_or, take, drop, set, replicate, length-append, length-drop}
-use Rattle.std.specs.List.{copy_within}
-use Rattle.std.proofs.lemmas.List.{drop-take}
-use lib.Seq.{length-take-le, take-suc, take-append-le, drop-append-add, set_at, set-append_left, set_split}
+use lib.ListN.{length, get_or, take, drop, set, replicate, length-append, length-drop, take-append-drop, get_or-append}
+use lib.Seq.{length-take-le, take-suc, drop-cons, drop-length, take-append-le, drop-append-add, get_or-take, set_at, set-append_left, set_split}
 use Rattle.lists.specs.Padded.{padded}
 use Rattle.lists.proofs.Padding.{take-padded, length-padded}
 use Rattle.categoric_build.specs.forms.Insertion.{shifted_up}
 
--- the move, as the code makes it
-pub copied_up : {A : Type 0} (at count : ℕ) (a : List A) → at ≤ count → copy_within a at count (at + 1) ≡ shifted_up at count a
-unfolding shifted_up
-copied_up {A} at count a h =
-    let whole : at + (count - at) ≡ count = omega arith in
-    let behind : at + 1 + (count - at) ≡ count + 1 = omega arith in
-    let moved : take (count - at) (drop at a) ≡ drop at (take count a) = sym (ap (λ (n : ℕ). drop at (take n a)) (sym whole) ∙ drop-take at (count - at) a) in
-    append_assoc (take (at + 1) a) (take (count - at) (drop at a)) (drop (at + 1 + (count - at)) a)
-    ∙ ap₂ (λ (l : List A) (n : ℕ). take (at + 1) a ++ (l ++ drop n a)) moved behind
-
 module _ {A : Type 0} (z : A) where
+  -- before the first move
+  pub moved_start : (count : ℕ) (a : List A) → count ≤ length a → shifted_up count count a ≡ a
+  unfolding shifted_up
+  moved_start count a h =
+      ap (λ (l : List A). take (count + 1) a ++ (l ++ drop (count + 1) a)) (none (take count a) (length-take-le count a h))
+      ∙ take-append-drop (count + 1) a
+    where
+      none : (l : List A) → length l ≡ count → drop count l ≡ []
+      none l e = ap (λ (n : ℕ). drop n l) (sym e) ∙ drop-length l
+
   -- the array in front of and behind the place, which still holds what it held
   moved_is : (at count : ℕ) (a : List A) → at < length a → shifted_up at count a ≡ take at a ++ get_or a at z ∷ (drop at (take count a) ++ drop (count + 1) a)
   unfolding shifted_up
@@ -30,6 +28,26 @@ module _ {A : Type 0} (z : A) where
       ap (λ (n : ℕ). take n a ++ (drop at (take count a) ++ drop (count + 1) a)) (add-one at)
       ∙ ap (λ (l : List A). l ++ (drop at (take count a) ++ drop (count + 1) a)) (take-suc a at z h)
       ∙ append_assoc (take at a) (get_or a at z ∷ []) (drop at (take count a) ++ drop (count + 1) a)
+
+  -- one move
+  pub moved_turn : (i m count : ℕ) (a : List A) → i ≡ suc m → i ≤ count → count < length a → set (shifted_up i count a) i (get_or (shifted_up i count a) m z)
+      ≡ shifted_up m count a
+  moved_turn i m count a e h g =
+      let l : length (take i a) ≡ i = length-take-le i a (omega arith) in
+      ap (λ (r : List A). set r i (get_or r m z)) (moved_is i count a (omega arith))
+      ∙ ap (λ (y : A). set (take i a ++ get_or a i z ∷ rest i) i y)
+      (get_or-append (take i a) (get_or a i z ∷ rest i) z m (omega arith) ∙ get_or-take i a m z (omega arith))
+      ∙ set_at (take i a) (get_or a i z) (rest i) (get_or a m z) i l
+      ∙ ap (λ (n : ℕ). take n a ++ get_or a m z ∷ rest n) e
+      ∙ ap (λ (r : List A). r ++ get_or a m z ∷ rest (suc m)) (take-suc a m z (omega arith))
+      ∙ append_assoc (take m a) (get_or a m z ∷ []) (get_or a m z ∷ rest (suc m))
+      ∙ ap (λ (y : A). take m a ++ get_or a m z ∷ y ∷ rest (suc m)) (sym (get_or-take count a m z (omega arith)))
+      ∙ ap (λ (r : List A). take m a ++ get_or a m z ∷ (r ++ drop (count + 1) a))
+      (sym (drop-cons (take count a) m z (omega (arith, length-take-le count a (omega arith)))))
+      ∙ sym (moved_is m count a (omega arith))
+    where
+      rest : ℕ → List A
+      rest n = drop n (take count a) ++ drop (count + 1) a
 
   -- a list in n places, with an entry stored in the room made
   pub roomed : (n at count : ℕ) (xs : List A) (x : A) → count ≡ length xs → at ≤ count → count < n → set (shifted_up at count (padded z n xs)) at x

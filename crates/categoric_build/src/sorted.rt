@@ -32,14 +32,15 @@ fn insertion_index(keys: &[i64], key: i64) -> usize
         .unwrap_or(keys.len())
 }
 
-// Makes room at a place.
-#[tactic(auto, using(crate::proofs::Rooms::copied_up))]
+// Makes room at a place. One loop over both arrays: by `copy_within` the library for C would need `memmove` from outside.
 fn shift_up(keys: &mut [i64; 256], colors: &mut [u32; 256], at: usize, count: usize)
     requires { (at ≤ count) × (count < 256) × (length keys.old ≡ 256) × (length colors.old ≡ 256) }
     ensures { (keys.new ≡ shifted_up at count keys.old) × (colors.new ≡ shifted_up at count colors.old) }
 {
-    keys.copy_within(at..count, at + 1);
-    colors.copy_within(at..count, at + 1);
+    for i in (at..count).rev() {
+        keys[i + 1] = keys[i];
+        colors[i + 1] = colors[i];
+    }
 }
 
 fn store(keys: &mut [i64; 256], colors: &mut [u32; 256], at: usize, key: i64, color: u32)
