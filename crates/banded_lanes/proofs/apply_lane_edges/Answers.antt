@@ -5,10 +5,14 @@ use Rattle.banded_lanes.proofs.LaneEdges.{settled_none, settled_finished, settle
 use Rattle.banded_lanes.proofs.apply_lane_edges.Goals as goal
 
 pub returns-then-scan : goal.returns-then-scan
-returns-then-scan c = let b = c.args.columns in settled_finished b.starts.now b.ends.now b.colors.now b.count c.args.u c.args.lanes c.args.value c.requires.1 c.if-scan.true
+returns-then-scan c =
+    let b = c.args.columns in
+    settled_finished b.starts.now b.ends.now b.colors.now b.count c.args.u c.args.lanes c.args.value c.requires.1 c.if-scan.true
 
 pub returns-then-columns-eq0 : goal.returns-then-columns-eq0
-returns-then-columns-eq0 c = let b = c.args.columns in settled_none b.starts.now b.ends.now b.colors.now b.count c.args.u c.args.lanes c.args.value c.requires.1 c.if-columns-eq0.true
+returns-then-columns-eq0 c =
+    let b = c.args.columns in
+    settled_none b.starts.now b.ends.now b.colors.now b.count c.args.u c.args.lanes c.args.value c.requires.1 c.if-columns-eq0.true
 
 pub returns : goal.returns
 returns c =

@@ -7,7 +7,8 @@ use Rattle.banded_lanes.proofs.scanned.Goals as goal
 pub loop-i-init : goal.loop-i-init
 loop-i-init c =
     let b = c.args.columns in
-    scanning_start b.starts.now b.ends.now b.colors.now b.count c.args.nodata c.args.lanes c.args.value _ (search rules) (search rules) c.nodata_lanes-result.ensures
+    scanning_start b.starts.now b.ends.now b.colors.now b.count c.args.nodata c.args.lanes c.args.value _ (search rules) (search rules)
+    c.nodata_lanes-result.ensures
 
 pub enter-requires : goal.enter-requires
 enter-requires c = (omega arith, c.loop-i.invariant.colored, c.loop-i.invariant.insides)
@@ -27,4 +28,6 @@ loop-i-preserved c =
     c.loop-i.invariant (omega arith) c.band_at-band.ensures e.ensures.colored e.ensures.entered e.ensures.all_inside c.if-enter.false
 
 pub returns : goal.returns
-returns c = let b = c.args.columns in scanning_end b.starts.now b.ends.now b.colors.now b.count c.args.nodata c.args.lanes c.args.value c.loop-i.invariant (omega arith)
+returns c =
+    let b = c.args.columns in
+    scanning_end b.starts.now b.ends.now b.colors.now b.count c.args.nodata c.args.lanes c.args.value c.loop-i.invariant (omega arith)

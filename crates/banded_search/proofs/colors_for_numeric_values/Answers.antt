@@ -13,7 +13,9 @@ returns-then-columns-eq0 c =
     let a = c.args in
     let b = a.columns in
     lanes_all 0 0 (length-replicate 16 a.u.nodata)
-    (λ k q. get_or-replicate 16 k a.u.nodata 0 q ∙ sym (plain-none b.starts.now b.ends.now b.colors.now b.count a.u (get_or a.value k nan) c.if-columns-eq0.true))
+    (λ k q.
+    get_or-replicate 16 k a.u.nodata 0 q
+    ∙ sym (plain-none b.starts.now b.ends.now b.colors.now b.count a.u (get_or a.value k nan) c.if-columns-eq0.true))
 
 pub returns : goal.returns
 returns c =
@@ -21,5 +23,6 @@ returns c =
     let b = a.columns in
     lanes_agree c.colors_at.ensures
     (λ k q.
-    plain_at_index b.starts.now b.ends.now b.colors.now b.count a.u (get_or a.value k nan) (omega arith) c.requires (lane_at_lem c.band_indices-indices.ensures.counted 0 k q)
+    plain_at_index b.starts.now b.ends.now b.colors.now b.count a.u (get_or a.value k nan) (omega arith) c.requires
+    (lane_at_lem c.band_indices-indices.ensures.counted 0 k q)
     c.first.ensures c.last.ensures (c.edge_colors-edged.ensures k q))
