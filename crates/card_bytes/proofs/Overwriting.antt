@@ -3,11 +3,12 @@ use Prim.Native.Nat.{ℕ, ◌+◌, ◌-◌, ◌≤◌, ◌<◌}
 use mathlib.Core.Path.{◌≡◌, refl, sym, ap, ap₂, ◌∙◌}
 use mathlib.Core.List.{List, [], ◌∷◌, ◌++◌, append_assoc}
 use native.Mathlib.Nat.{zero-add}
+use native.Mathlib.Numerals.{add-one}
 use native.Mathlib.Omega.{arith}
-use lib.ListN.{length, take, drop, set, length-append, length-drop}
+use lib.ListN.{length, take, drop, get_or, set, length-append, length-drop}
 use borrow.Rule.Slice.PartMut.{put_mid}
 use Rattle.std.proofs.lemmas.Slice.{put_mid-paste}
-use lib.Seq.{take_all, length-take-le, take_at, drop_at, drop-drop, sets-eq, paste-zero}
+use lib.Seq.{take_all, take-suc, length-take-le, take_at, drop_at, drop-drop, sets-eq, paste-zero}
 use Rattle.card_bytes.specs.Numbers.{overwritten}
 
 -- what is laid, with what stands before it
@@ -58,6 +59,15 @@ overwritten_then at xs ys l h =
 pub wrote_then : {at' : ℕ} {l₁ l₂ : List ℕ} (at : ℕ) (xs ys l : List ℕ) → l₁ ≡ overwritten at xs l → l₂ ≡ overwritten at' ys l₁
     → at' ≡ at + length xs → at + length xs ≤ length l → l₂ ≡ overwritten at (xs ++ ys) l
 wrote_then at xs ys l e f g h = f ∙ ap₂ (λ (k : ℕ) (r : List ℕ). overwritten k ys r) g e ∙ overwritten_then at xs ys l h
+
+-- one byte of a part more
+pub wrote_more : {l₁ : List ℕ} (at i : ℕ) (part l : List ℕ) → l₁ ≡ overwritten at (take i part) l → i < length part → at + length part ≤ length l
+    → set l₁ (at + i) (get_or part i 0) ≡ overwritten at (take (i + 1) part) l
+wrote_more {l₁} at i part l e h g =
+    let long : length (take i part) ≡ i = length-take-le i part (omega arith) in
+    let all : length l₁ ≡ length l = ap length e ∙ length-overwritten at (take i part) l (omega arith) in
+    wrote_then at (take i part) (get_or part i 0 ∷ []) l e (set-overwritten (at + i) (get_or part i 0) l₁ (omega arith)) (omega arith) (omega arith)
+    ∙ ap (λ (r : List ℕ). overwritten at r l) (sym (ap (λ (k : ℕ). take k part) (add-one i) ∙ take-suc part i 0 h))
 
 -- for the check's own search
 pub ruleset overwriting = (set-overwritten, put_mid-overwritten)

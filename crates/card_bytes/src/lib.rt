@@ -73,11 +73,12 @@ pub fn put_u64(bytes: &mut [u8], at: usize, number: u64)
     put_all(bytes, at, &number.to_le_bytes());
 }
 
-// All of some bytes.
-#[tactic(auto, using(crate::proofs::Overwriting::overwriting))]
+// All of some bytes. A loop: by `copy_from_slice`, of a length that is no literal, the library for C would need `memmove` from outside.
 pub fn put_all(bytes: &mut [u8], at: usize, part: &[u8])
     requires { at + length part.now ≤ length bytes.old }
     ensures { bytes.new ≡ overwritten at part.now bytes.old }
 {
-    bytes[at..at + part.len()].copy_from_slice(part);
+    for i in 0..part.len() {
+        bytes[at + i] = part[i];
+    }
 }

@@ -79,12 +79,15 @@ pub fn store(l: usize, c: [u32; 16], base: usize, out: &mut [u32])
 
 // ---- scratch
 
-// The first l words from at on, to the front.
+// The first l words from at on, to the front. A loop: by `copy_from_slice`, of a length that is no literal, the library for C would need `memmove`
+// from outside.
 fn copied(l: usize, from: &[u32], at: usize, to: &mut [u32])
     requires { (at + l ≤ length from.now) × (l ≤ length to.old) }
     ensures { to.new ≡ paste to.old 0 (drop at from.now) l }
 {
-    to[..l].copy_from_slice(&from[at..at + l]);
+    for i in 0..l {
+        to[i] = from[at + i];
+    }
 }
 
 // After lane painting: the last full chunk's words to the front of scratch, which the refusals have seen to be long enough.
