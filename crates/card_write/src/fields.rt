@@ -86,19 +86,18 @@ fn put_entries(legend: Legend, buffer: &mut [u8], at: usize)
     requires { (stored_refusal legend ≡ Done) × (at + entries_length legend ≤ length buffer.old) }
     ensures { buffer.new ≡ overwritten at (entries_from legend.kind legend) buffer.old }
 {
+    // What is lent is a part of its own: lent in the legend, it would have the whole copied for every kind.
     match legend.kind {
         LegendKind::Linear => put_linear(legend.linear, buffer, at),
         LegendKind::Banded => {
-            put_bands(&legend.banded.bands[..legend.banded.count], buffer, at);
+            let bands = legend.banded.bands;
+            put_bands(&bands[..legend.banded.count], buffer, at);
         }
         LegendKind::CategoricNumeric => {
             let count = legend.categoric.count;
-            put_categories(
-                &legend.categoric.keys[..count],
-                &legend.categoric.colors[..count],
-                buffer,
-                at,
-            );
+            let keys = legend.categoric.keys;
+            let colors = legend.categoric.colors;
+            put_categories(&keys[..count], &colors[..count], buffer, at);
         }
     }
 }
@@ -110,7 +109,8 @@ fn put_linear(linear: Linear, buffer: &mut [u8], at: usize)
 {
     put_u32(buffer, at, words::bits(linear.start));
     put_u32(buffer, at + 4, words::bits(linear.end));
-    put_colors(&linear.cmap, buffer, at + 8);
+    let cmap = linear.cmap;
+    put_colors(&cmap, buffer, at + 8);
 }
 
 #[tactic(auto, using(crate::proofs::Putting::laying_entries))]
