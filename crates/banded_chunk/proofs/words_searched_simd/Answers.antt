@@ -10,7 +10,7 @@ apply_lane_edges-c-requires g c =
     let b = c.args.columns in (
       omega arith,
       scan_at_indices b.starts.now b.ends.now b.colors.now b.count _ g.row.L _ c.requires.0.some c.requires.0.ordered (omega arith) (omega arith)
-          (search rules) c.band_indices-indices.ensures c.colors_at.ensures c.all_held.ensures,
+          (search rules) (grind arith) c.colors_at.ensures (grind arith),
     )
 
 pub returns : goal.returns
