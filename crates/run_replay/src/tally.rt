@@ -1,5 +1,5 @@
 // How many rows there are of each kind, and how many of them differ.
-ghost use Rattle.std.specs.Prelude.{◌≡◌, ◌<◌, if◌then◌else◌};
+ghost use Rattle.std.specs.Prelude.{◌≡◌, ◌<◌, if◌then◌else◌, replicate};
 ghost use Rattle.run_replay.specs.Tally.{place_of, is_same, tallied, sum_to};
 
 use replay_rows::kind::RowKind;
@@ -30,7 +30,9 @@ pub fn is_same(kind: Option<RowKind>, at: usize) -> bool
 
 impl Tally {
     // Of no rows.
-    pub fn new() -> Tally {
+    pub fn new() -> Tally
+        ensures { (result.rows ≡ replicate 13 0) × (result.differ ≡ replicate 13 0) }
+    {
         Tally {
             rows: [0; 13],
             differ: [0; 13],
