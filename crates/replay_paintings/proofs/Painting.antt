@@ -3,7 +3,7 @@ use Rattle.std.specs.Prelude.{Option}
 use Rattle.refusal.specs.Outcome.{Answer, if_done}
 use mathlib.Core.Bool.{Bool, true, false, cond}
 use mathlib.Core.List.{List, [], ◌∷◌, ◌++◌, map}
-use mathlib.Core.Path.{◌≡◌, refl, sym, ap, ap₂, ◌∙◌}
+use mathlib.Core.Path.{◌≡◌, refl, sym, subst, ap, ap₂, ◌∙◌}
 use Prim.Native.Nat.{ℕ, zero, suc, ◌+◌, ◌-◌, ◌≤◌}
 use native.Mathlib.Omega.{arith}
 use borrow.Author.Tests.{ltb-true, ne_eqb}
@@ -102,6 +102,13 @@ module _ (xs : List Float) {n : ℕ} (m : n ≡ length xs) (few : n ≤ 40) wher
       ap₂ lane-words
       (ap₂ (λ (w r : List ℕ). w ++ r) o rest_is)
       (q.scratch_after ∙ ap₂ (λ x w. if_done x (cond p.simd (scratch_after L w mark) mark) mark) a o)
+
+  -- where scratch held the mark
+  pub lanes_marked : {p : Painter} {answer : Answer} {out' : List ℕ} {L : ℕ} {scratch scratch' : List ℕ} → scratch ≡ mark
+      → LanePainting p L xs (take n (zeros 40)) scratch answer out' scratch'
+      → ◌≡◌ {A = LaneWords} (record { words = out' ++ drop n (zeros 40); scratch = scratch' }) (lane_words L p xs)
+  lanes_marked {p} {answer} {out'} {L} {scratch' = scratch'} held q =
+      lanes_are (subst (λ (s : List ℕ). LanePainting p L xs (take n (zeros 40)) s answer out' scratch') held q)
 
 -- each by itself
 pub values_are : {words : List ℕ} (l : Legend) (nodata : (Option Float)) (n : ℕ) (samples : List Float) → n ≤ length samples
