@@ -10,6 +10,7 @@ use legend::Legend;
 use refusal::Refusal;
 
 // The card of a legend under a title, in the first bytes of a buffer; its length.
+#[tactic(auto, using(crate::proofs::Lengths::refusal_of_lengths, crate::proofs::Lengths::length_mapped, crate::proofs::Refusing::nothing_refused))]
 pub fn write(legend: Legend, title: &[u8], buffer: &mut [u8]) -> Result<usize, Refusal>
     ensures { CardWriting title.now legend buffer.old result buffer.new }
 {
