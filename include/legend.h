@@ -15,8 +15,8 @@
  * rounding direction changes colours, and flushing subnormal numbers to zero may.
  *
  * A call takes less than 40,000 bytes of stack, with what C puts there for its arguments and its result. The most that
- * was seen is 39,639, in legend_create_banded_as_given, 7,000 of them for the result; in a painting 9,619, and 26,775
- * where a card is read (c/stack.c measures each call).
+ * was seen is 28,519, where a card is read, 7,000 of them for the result; in a painting 8,451, and 23,767 where a card
+ * is written (c/stack.c measures each call).
  */
 #ifndef LEGEND_H
 #define LEGEND_H
